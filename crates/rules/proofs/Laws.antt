@@ -1,0 +1,77 @@
+-- What others need of a word's flags: those of a valid table are at most 15; a flag that no row has, no word has; a row that does not apply changes nothing.
+-- By induction over the rows, from the bits of a union. Assumes nothing.
+use mathlib.Core.Path.{_≡_, refl, sym, ap, _∙_}
+use mathlib.Core.List.{List, [], _∷_, _++_}
+use mathlib.Core.Bool.{Bool, true, false, cond, not, _&&_}
+use Prim.Native.Nat.{ℕ, _+_, _*_, _/_, _%_, _^_, _≤_, _<_, max}
+use native.Mathlib.Nat.{zero-div}
+use native.Mathlib.Omega.{arith}
+use lib.Bits.{bitOr, or-lt, or-shr, or-step, or-mod}
+use lib.Dec.{eqb, leb}
+use lib.ListN.{length}
+use borrow.Author.Tests.{eqb-true, eqb-false, ne-eqb, leb-true}
+use Rattle.rules.specs.Rules.{has, Row, applies, withRow, rowsOf, withRows, flagsOf, flagsSmall, validOf, noneHas}
+
+-- both of a conjunction
+both : (a b : Bool) → (a && b) ≡ true → (a ≡ true) × (b ≡ true)
+both true b e = (refl, e)
+both false b e = absurd (let z : _≡_ {A = ℕ} 0 1 = cc in omega arith)
+
+-- ---- at most 15
+
+pick-lt : (t : Bool) (a b : ℕ) → a < 2 ^ 4 → b < 2 ^ 4 → cond t (bitOr a b) a < 2 ^ 4
+pick-lt true a b h g = or-lt 4 a b h g
+pick-lt false a b h g = h
+
+rows-lt : (word all : ℕ) (rs : List Row) → all < 2 ^ 4 → flagsSmall rs ≡ true → withRows word all rs < 2 ^ 4
+unfolding withRows flagsSmall
+rows-lt word all [] h e = h
+rows-lt word all (r ∷ rs) h e =
+    let q = both (leb (r .flags) 15) (flagsSmall rs) e in
+    let small : r .flags ≤ 15 = leb-true (r .flags) 15 (q .0) in
+    rows-lt word (withRow word all r) rs (pick-lt (applies word r) all (r .flags) h (omega arith)) (q .1)
+
+pub flags-le : (rules : List ℕ) (word : ℕ) → validOf rules ≡ true → flagsOf rules word ≤ 15
+unfolding flagsOf validOf
+flags-le rules word e =
+    let whole = eqb (length rules % 3) 0 in
+    let few = leb (length rules / 3) 64 in
+    let small = flagsSmall (rowsOf rules) in
+    let h : withRows word 0 (rowsOf rules) < 2 ^ 4 = rows-lt word 0 (rowsOf rules) (omega arith) (both few small (both whole (few && small) e .1) .1) in
+    omega arith
+
+-- ---- a flag that no row has
+
+or-bit : (a b k : ℕ) → bitOr a b / 2 ^ k % 2 ≡ max (a / 2 ^ k % 2) (b / 2 ^ k % 2)
+or-bit a b k =
+    ap (λ (n : ℕ). n % 2) (or-shr a b k ∙ or-step (a / 2 ^ k) (b / 2 ^ k))
+    ∙ omega arith
+
+or-lacks : (a b k : ℕ) → has a (2 ^ k) ≡ false → has b (2 ^ k) ≡ false → has (bitOr a b) (2 ^ k) ≡ false
+or-lacks a b k h g = ne-eqb (bitOr a b / 2 ^ k % 2) 1 (λ e. let p = eqb-false (a / 2 ^ k % 2) 1 h in let q = eqb-false (b / 2 ^ k % 2) 1 g in omega (arith, or-bit a b k))
+
+pick-lacks : (t : Bool) (a b k : ℕ) → has a (2 ^ k) ≡ false → has b (2 ^ k) ≡ false → has (cond t (bitOr a b) a) (2 ^ k) ≡ false
+pick-lacks true a b k h g = or-lacks a b k h g
+pick-lacks false a b k h g = h
+
+no : (b : Bool) → not b ≡ true → b ≡ false
+no true e = sym e
+no false e = refl
+
+rows-lack : (word all k : ℕ) (rs : List Row) → has all (2 ^ k) ≡ false → noneHas (2 ^ k) rs ≡ true → has (withRows word all rs) (2 ^ k) ≡ false
+unfolding withRows noneHas
+rows-lack word all k [] h e = h
+rows-lack word all k (r ∷ rs) h e =
+    let q = both (not (has (r .flags) (2 ^ k))) (noneHas (2 ^ k) rs) e in
+    rows-lack word (withRow word all r) k rs (pick-lacks (applies word r) all (r .flags) k h (no (has (r .flags) (2 ^ k)) (q .0))) (q .1)
+
+pub flags-lack : (rules : List ℕ) (word k : ℕ) → noneHas (2 ^ k) (rowsOf rules) ≡ true → has (flagsOf rules word) (2 ^ k) ≡ false
+unfolding flagsOf
+flags-lack rules word k e = rows-lack word 0 k (rowsOf rules) (ne-eqb (0 / 2 ^ k % 2) 1 (λ z. omega (arith, zero-div (2 ^ k)))) e
+
+-- ---- a row that does not apply
+
+pub row-passed : (word all : ℕ) (rs ts : List Row) (r : Row) → applies word r ≡ false → withRows word all (rs ++ (r ∷ ts)) ≡ withRows word all (rs ++ ts)
+unfolding withRows
+row-passed word all [] ts r e = ap (λ (t : Bool). withRows word (cond t (bitOr all (r .flags)) all) ts) e
+row-passed word all (q ∷ rs) ts r e = row-passed word (withRow word all q) rs ts r e

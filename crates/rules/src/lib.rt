@@ -1,0 +1,65 @@
+// The rule table in the place of errata.rs: whether a table is valid, and the flags that it gives a version word.
+// A table is rows of three numbers: mask, wanted, flags.
+ghost use mathlib.Core.Path.{_≡_};
+ghost use Prim.Native.Nat.{_+_, _<_};
+ghost use Rattle.rules.specs.Rules.{has, flagsOf, validOf};
+
+// The flags, as in document 01.
+pub const LEGACY_SERVER: u32 = 1;
+
+pub const LEGACY_GPU: u32 = 2;
+
+pub const LEGACY_SERVER_BOX: u32 = 4;
+
+pub const SIZES_IN_BYTES: u32 = 8;
+
+// All of them together.
+const EVERY_FLAG: u32 = 15;
+
+const NUMBERS_IN_ROW: usize = 3;
+
+const MOST_ROWS: usize = 64;
+
+// Whether a flags number has a flag.
+pub fn has_flag(flags: u32, flag: u32) -> bool
+    requires { ⌜ 0 < flag ⌝ }
+    ensures { λ r. ⌜ r ≡ has flags flag ⌝ }
+{
+    flags / flag % 2 == 1
+}
+
+// Whether a table has whole rows, at most 64, and no flags number above 15.
+pub fn valid(rules: &[u32]) -> bool
+    ensures { λ r. ⌜ r ≡ validOf (now (rules .entry)) ⌝ }
+{
+    if rules.len() % NUMBERS_IN_ROW != 0 {
+        return false;
+    }
+    if MOST_ROWS < rules.len() / NUMBERS_IN_ROW {
+        return false;
+    }
+    let mut at: usize = 0;
+    while at < rules.len() {
+        if EVERY_FLAG < rules[at + 2] {
+            return false;
+        }
+        at = at + NUMBERS_IN_ROW;
+    }
+    true
+}
+
+// The flags of a version word: the union over the rows that apply.
+pub fn flags(rules: &[u32], word: u32) -> u32
+    ensures { λ r. ⌜ r ≡ flagsOf (now (rules .entry)) word ⌝ }
+{
+    let mut all: u32 = 0;
+    let mut at: usize = 0;
+    while at + 2 < rules.len() {
+        let masked = word & rules[at];
+        if masked == rules[at + 1] {
+            all = all | rules[at + 2];
+        }
+        at = at + NUMBERS_IN_ROW;
+    }
+    all
+}
