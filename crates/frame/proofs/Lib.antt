@@ -1,0 +1,3 @@
+pub mod Words
+pub mod Sizes
+pub mod Heads

@@ -1,0 +1,28 @@
+-- `in_bytes` turns units into bytes.
+-- By the flag's test. Assumes nothing.
+use mathlib.Core.Path.{_≡_, sym, _∙_}
+use native.Mathlib.Omega.{arith}
+use Rattle.frame.specs.Frame.{unit}
+use Rattle.frame.proofs.Sizes.{unit-one, unit-four}
+use borrow.Author.Needs.{needs}
+use Rattle.frame.proofs.in_bytes.Statement.{statement}
+use Rattle.frame.proofs.in_bytes.Tie as tie
+
+has-flag-requires : tie.Need-has-flag-requires
+has-flag-requires c κs = search needs
+
+returns : tie.Need-returns
+returns c =
+    let one : unit (c .before .before .args .flags) ≡ 1 = unit-one (c .before .before .args .flags) (sym (c .before .has-flag .ensures) ∙ c .if1 .taken) in
+    (rw one (omega arith), omega arith)
+
+mul-result : tie.Need-mul-result
+mul-result c = search needs
+
+returns-2 : tie.Need-returns-2
+returns-2 c =
+    let four : unit (c .before .before .args .flags) ≡ 4 = unit-four (c .before .before .args .flags) (sym (c .before .has-flag .ensures) ∙ c .if1 .left) in
+    (rw four, omega arith)
+
+pub in-bytes-spec : {M : Type 1} → statement M
+in-bytes-spec = tie.close (tie.spec has-flag-requires returns mul-result returns-2)

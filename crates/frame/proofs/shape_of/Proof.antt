@@ -1,0 +1,73 @@
+-- `shape_of` gives the layout and the header size of a header type.
+-- Each arm is a row of the table; past it the type is bad. Assumes nothing.
+use mathlib.Core.Path.{_≡_, ap, _∙_}
+use Prim.Native.Nat.{ℕ, suc, _+_, _*_, _≤_}
+use borrow.Author.Needs.{zero≤}
+use native.Mathlib.Omega.{arith}
+use Rattle.frame.specs.Frame.{shape}
+use Rattle.frame.specs.declared.Layout.the-variants.{Type6}
+use Rattle.frame.proofs.Sizes.{shape-bad}
+use borrow.Author.Needs.{needs}
+use Rattle.frame.proofs.shape_of.Statement.{statement}
+use Rattle.frame.proofs.shape_of.Tie as tie
+
+-- not below k and not k: past k
+past : {t : ℕ} (k : ℕ) → k ≤ t → (t ≡ k → ⊥) → suc k ≤ t
+past k h f = omega arith
+
+-- past every type that has an arm of its own
+beyond : (c : tie.At-match-rest) → 7 ≤ c .before .before .args .header-type
+beyond c = past 6 (past 5 (past 4 (past 3 (past 2 (past 1 (past 0 zero≤ (c .match .rest .0 .0 .0 .0 .0 .0 .1)) (c .match .rest .0 .0 .0 .0 .0 .1)) (c .match .rest .0 .0 .0 .0 .1)) (c .match .rest .0 .0 .0 .1)) (c .match .rest .0 .0 .1)) (c .match .rest .0 .1)) (c .match .rest .1)
+
+count-of-requires : tie.Need-count-of-requires
+count-of-requires c κs = search needs
+
+mul-t12 : tie.Need-mul-t12
+mul-t12 c = search needs
+
+add-t13 : tie.Need-add-t13
+add-t13 c = search needs
+
+returns : tie.Need-returns
+returns c = rw (c .match .keys1)
+
+returns-2 : tie.Need-returns-2
+returns-2 c = rw (c .match .keys2)
+
+returns-3 : tie.Need-returns-3
+returns-3 c = rw (c .match .keys3)
+
+returns-4 : tie.Need-returns-4
+returns-4 c = rw (c .match .keys4)
+
+returns-5 : tie.Need-returns-5
+returns-5 c = rw (c .match .keys5)
+
+returns-6 : tie.Need-returns-6
+returns-6 c = rw (c .match .keys6)
+
+returns-7 : tie.Need-returns-7
+returns-7 c = rw (c .before .match .keys7) (ap (λ (n : ℕ). shape Type6 (28 + 4 * n)) (c .count-of .ensures .0))
+
+returns-8 : tie.Need-returns-8
+returns-8 c = shape-bad (c .before .before .before .args .s .now) (c .before .before .before .args .header-type) (beyond (c .before))
+
+returns-9 : tie.Need-returns-9
+returns-9 c = shape-bad (c .before .before .before .args .s .now) (c .before .before .before .args .header-type) (beyond (c .before))
+
+pub shape-of-spec : {M : Type 1} → statement M
+shape-of-spec =
+    tie.close
+    (tie.spec
+    count-of-requires
+    mul-t12
+    add-t13
+    returns
+    returns-2
+    returns-3
+    returns-4
+    returns-5
+    returns-6
+    returns-7
+    returns-8
+    returns-9)

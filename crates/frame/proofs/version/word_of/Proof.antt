@@ -1,0 +1,22 @@
+-- `word_of` gives the version word, or ended.
+-- By the tests that it makes. Assumes nothing.
+use native.Mathlib.Omega.{arith}
+use Rattle.frame.proofs.Words.{word-short, word-marked, word-there}
+use borrow.Author.Needs.{needs}
+use Rattle.frame.proofs.version.word_of.Statement.{statement}
+use Rattle.frame.proofs.version.word_of.Tie as tie
+
+returns : tie.Need-returns
+returns c = word-short (c .before .before .args .s .now) (omega arith)
+
+u32-at-requires : tie.Need-u32-at-requires
+u32-at-requires c κs = search needs
+
+returns-2 : tie.Need-returns-2
+returns-2 c = word-marked (c .before .before .before .before .args .s .now) (omega arith) (c .before .u32-at .result) (c .before .u32-at .ensures) (c .if2 .taken)
+
+returns-3 : tie.Need-returns-3
+returns-3 c = word-there (c .before .before .before .before .args .s .now) (omega arith) (c .before .u32-at .result) (c .before .u32-at .ensures) (c .if2 .left)
+
+pub word-of-spec : {M : Type 1} → statement M
+word-of-spec = tie.close (tie.spec returns u32-at-requires returns-2 returns-3)

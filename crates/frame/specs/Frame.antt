@@ -1,0 +1,128 @@
+-- What the header at the start of some bytes is, as far as a span row needs it (document 01, 'Record header').
+use Prim.Native.Nat.{ℕ, _+_, _*_, _/_, _%_, _≤_, _<_}
+use mathlib.Core.List.{List, [], _∷_}
+use mathlib.Core.Bool.{Bool, true, false, cond, _||_}
+use lib.Dec.{eqb, ltb}
+use lib.ListN.{length, getD}
+use Rattle.le.specs.Le.{le}
+use Rattle.rules.specs.Rules.{has, legacyServer, legacyGpu, legacyServerBox, sizesInBytes, flagsOf}
+use Rattle.frame.specs.Version.{ended, wordOf, headerType, recordType}
+use Rattle.frame.specs.declared.Layout.{Layout}
+use Rattle.frame.specs.declared.Layout.the-variants.{Type0, Type1, Type2, Type3, Type4, Type5, Type6, Type0LegacyServer, Type0LegacyGpu, Bad}
+use Rattle.frame.specs.declared.Shape.{Shape}
+use Rattle.frame.specs.declared.Head.{Head}
+use Rattle.frame.specs.declared.Head.the-variants.{Ended, BadHeader, BadType, Record}
+
+-- ---- sizes
+
+-- flag 1 or 2
+abbrev pub legacy : ℕ → Bool
+legacy flags = has flags legacyServer || has flags legacyGpu
+
+-- the record's size and its extended size as they are written
+abbrev pub recordSize : List ℕ → ℕ → ℕ
+recordSize bs flags = cond (legacy flags) (le 2 bs 16) (le 2 bs 4)
+
+abbrev pub extendedSize : List ℕ → ℕ → ℕ
+extendedSize bs flags = cond (legacy flags) 0 (le 2 bs 6)
+
+-- where the size fields end
+abbrev pub sizesEnd : ℕ → ℕ
+sizesEnd flags = cond (legacy flags) 18 8
+
+-- the bytes that sizes count in
+abbrev pub unit : ℕ → ℕ
+unit flags = cond (has flags sizesInBytes) 1 4
+
+-- the bytes that a record declares
+unfoldable pub declaredOf : List ℕ → ℕ → ℕ
+declaredOf bs flags = (recordSize bs flags + extendedSize bs flags) * unit flags
+
+-- ---- layout and header size
+
+abbrev pub shape : Layout → ℕ → Shape
+shape layout size = record { layout = layout; size = size }
+
+-- the count of status words of a type 6 header; 0 where its bytes are lacking
+abbrev pub countOf : List ℕ → ℕ
+countOf bs = cond (ltb (length bs) 28) 0 (le 2 bs 26 % 128)
+
+-- what `sizeOf` gives in the place of a size
+abbrev pub badType : ℕ
+badType = 0
+
+abbrev pub lacking : ℕ
+lacking = 1
+
+-- layout and header size of the types 0 to 6; every other type is bad
+abbrev pub shapes : List ℕ → List Shape
+shapes bs =
+    shape Type0 8
+    ∷ shape Type1 8
+    ∷ shape Type2 24
+    ∷ shape Type3 28
+    ∷ shape Type4 32
+    ∷ shape Type5 32
+    ∷ shape Type6 (28 + 4 * countOf bs)
+    ∷ []
+
+abbrev pub shapeOf : List ℕ → ℕ → Shape
+shapeOf bs t = getD (shapes bs) t (shape Bad badType)
+
+-- flag 1 chooses the legacy server layout, else flag 2 the legacy GPU layout, else the header type decides
+abbrev pub layoutOf : List ℕ → ℕ → ℕ → Layout
+layoutOf bs word flags =
+    cond (has flags legacyServer) Type0LegacyServer
+    (cond (has flags legacyGpu) Type0LegacyGpu (shapeOf bs (headerType word) .layout))
+
+-- a header size, where there are so many bytes
+abbrev pub enough : List ℕ → ℕ → ℕ
+enough bs size = cond (ltb (length bs) size) lacking size
+
+-- the header's size, or that its type is bad, or that bytes are lacking; the sizes are read before the type is judged
+unfoldable pub sizeOf : List ℕ → ℕ → ℕ → ℕ
+sizeOf bs word flags =
+    cond (legacy flags) (enough bs 32)
+    (cond (ltb (length bs) 8) lacking (enough bs (shapeOf bs (headerType word) .size)))
+
+-- ---- one try
+
+-- a Box: record type 0x3D, or flag 4
+abbrev pub isBox : ℕ → ℕ → Bool
+isBox word flags = eqb (recordType word) 0x3d || has flags legacyServerBox
+
+-- the header, where its word and flags are known
+unfoldable pub headWith : List ℕ → ℕ → ℕ → Head
+headWith bs word flags =
+    cond (eqb word ended) Ended
+    (cond (eqb (sizeOf bs word flags) badType) (BadType (headerType word))
+    (cond (eqb (sizeOf bs word flags) lacking) BadHeader
+    (Record word flags (declaredOf bs flags) (sizeOf bs word flags))))
+
+-- the header at the start of some bytes, under a rule table
+unfoldable pub headOf : List ℕ → List ℕ → Head
+headOf rules bs = headWith bs (wordOf bs) (flagsOf rules (wordOf bs))
+
+-- document 01's number of each case; ended has none there, and is 254
+abbrev pub numberOf : Head → ℕ
+numberOf Ended = 254
+numberOf BadHeader = 3
+numberOf (BadType t) = 4
+numberOf (Record word flags declared size) = 0
+
+-- the bounds of a record's numbers
+abbrev pub Bounded : Head → Type 0
+Bounded Ended = Unit {0}
+Bounded BadHeader = Unit {0}
+Bounded (BadType t) = (7 ≤ t) × (t < 16)
+Bounded (Record word flags declared size) = (declared ≤ 524280) × (8 ≤ size) × (size ≤ 536)
+
+-- a size that was found: within its bounds, and within the bytes, as the size fields are
+pub record Found (bs : List ℕ) (flags size : ℕ) : Type 0 where
+  pub least : 8 ≤ size
+  pub most : size ≤ 536
+  pub within : size ≤ length bs
+  pub sizes : sizesEnd flags ≤ length bs
+
+abbrev pub Measured : List ℕ → ℕ → ℕ → Type 0
+Measured bs flags size = lacking < size → Found bs flags size

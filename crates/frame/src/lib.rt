@@ -1,0 +1,229 @@
+// One try: what the header at the start of a slice is, as far as a span row needs it, and the parts that this is made of.
+// The walk calls the parts, which are numbers; `frame` and the decoder are made of the same parts.
+ghost use mathlib.Core.Path.{_≡_};
+ghost use mathlib.Core.Bool.{true};
+ghost use Prim.Native.Nat.{_+_, _*_, _≤_, _<_};
+ghost use lib.ListN.{length};
+ghost use Rattle.le.specs.Le.{le};
+ghost use Rattle.frame.specs.Version.{wordOf};
+ghost use Rattle.frame.specs.Frame.{legacy, recordSize, extendedSize, sizesEnd, unit, declaredOf, countOf, shapeOf, layoutOf, enough, sizeOf, isBox, headOf, Measured, Bounded};
+
+pub mod version;
+
+use version::ENDED;
+use version::word_of;
+
+// How the fields of a header lie.
+pub enum Layout {
+    Type0,
+    Type1,
+    Type2,
+    Type3,
+    Type4,
+    Type5,
+    Type6,
+    Type0LegacyServer,
+    Type0LegacyGpu,
+    Bad,
+}
+
+pub struct Shape {
+    pub layout: Layout,
+    pub size: usize,
+}
+
+// Size of a Crash Log record, as its header has it.
+pub struct RecordSize {
+    pub record_size: u16,
+    pub extended_record_size: u16,
+}
+
+// What one try finds.
+pub enum Head {
+    Ended,
+    BadHeader,
+    BadType(u32),
+    Record {
+        word: u32,
+        flags: u32,
+        declared: usize,
+        size: usize,
+    },
+}
+
+// What `size_of` gives in the place of a size.
+pub const BAD_TYPE: usize = 0;
+
+pub const LACKING: usize = 1;
+
+const BOX: u32 = 0x3d;
+
+// Whether the flags choose a legacy layout.
+pub fn is_legacy(flags: u32) -> bool
+    ensures { λ r. ⌜ r ≡ legacy flags ⌝ }
+{
+    rules::has_flag(flags, rules::LEGACY_SERVER) | rules::has_flag(flags, rules::LEGACY_GPU)
+}
+
+// Whether records stand inside.
+pub fn is_box(word: u32, flags: u32) -> bool
+    ensures { λ r. ⌜ r ≡ isBox word flags ⌝ }
+{
+    (word / 16777216 % 64 == BOX) | rules::has_flag(flags, rules::LEGACY_SERVER_BOX)
+}
+
+// The size fields, of which a legacy header has only the record's.
+pub fn sizes_of(s: &[u8], flags: u32) -> RecordSize
+    requires { ⌜ sizesEnd flags ≤ length (now s) ⌝ }
+    ensures { λ r. ⌜ (r .«record_size» ≡ recordSize (now (s .entry)) flags) × (r .«extended_record_size» ≡ extendedSize (now (s .entry)) flags) ⌝ }
+{
+    if is_legacy(flags) {
+        return RecordSize {
+            record_size: le::u16_at(s, 16),
+            extended_record_size: 0,
+        };
+    }
+    RecordSize {
+        record_size: le::u16_at(s, 4),
+        extended_record_size: le::u16_at(s, 6),
+    }
+}
+
+// A count of the size fields' units, in bytes.
+pub fn in_bytes(units: usize, flags: u32) -> usize
+    requires { ⌜ units ≤ 131070 ⌝ }
+    ensures { λ r. ⌜ (r ≡ units * unit flags) × (r ≤ 524280) ⌝ }
+{
+    if rules::has_flag(flags, rules::SIZES_IN_BYTES) {
+        return units;
+    }
+    units * 4
+}
+
+// The bytes that the record declares.
+pub fn declared_of(s: &[u8], flags: u32) -> usize
+    requires { ⌜ sizesEnd flags ≤ length (now s) ⌝ }
+    ensures { λ r. ⌜ (r ≡ declaredOf (now (s .entry)) flags) × (r ≤ 524280) ⌝ }
+{
+    let size = sizes_of(s, flags);
+    in_bytes(
+        (size.record_size as usize) + (size.extended_record_size as usize),
+        flags,
+    )
+}
+
+// The count of status words of a type 6 header, or 0 where its bytes are lacking.
+pub fn count_of(s: &[u8]) -> usize
+    ensures { λ r. ⌜ (r ≡ countOf (now (s .entry))) × (r ≤ 127) ⌝ }
+{
+    if s.len() < 28 {
+        return 0;
+    }
+    (le::u16_at(s, 26) % 128) as usize
+}
+
+// The layout and the header size that a header type chooses.
+pub fn shape_of(s: &[u8], header_type: u32) -> Shape
+    requires { ⌜ «header_type» < 16 ⌝ }
+    ensures { λ r. ⌜ r ≡ shapeOf (now (s .entry)) «header_type» ⌝ }
+{
+    match header_type {
+        0 => Shape {
+            layout: Layout::Type0,
+            size: 8,
+        },
+        1 => Shape {
+            layout: Layout::Type1,
+            size: 8,
+        },
+        2 => Shape {
+            layout: Layout::Type2,
+            size: 24,
+        },
+        3 => Shape {
+            layout: Layout::Type3,
+            size: 28,
+        },
+        4 => Shape {
+            layout: Layout::Type4,
+            size: 32,
+        },
+        5 => Shape {
+            layout: Layout::Type5,
+            size: 32,
+        },
+        6 => Shape {
+            layout: Layout::Type6,
+            size: 28 + 4 * count_of(s),
+        },
+        7..=15 => Shape {
+            layout: Layout::Bad,
+            size: BAD_TYPE,
+        },
+        _ => Shape {
+            layout: Layout::Bad,
+            size: BAD_TYPE,
+        },
+    }
+}
+
+// The layout that the flags choose, or else the header type.
+pub fn layout_of(s: &[u8], word: u32, flags: u32) -> Layout
+    ensures { λ r. ⌜ r ≡ layoutOf (now (s .entry)) word flags ⌝ }
+{
+    if rules::has_flag(flags, rules::LEGACY_SERVER) {
+        return Layout::Type0LegacyServer;
+    }
+    if rules::has_flag(flags, rules::LEGACY_GPU) {
+        return Layout::Type0LegacyGpu;
+    }
+    let shape = shape_of(s, word / 256 % 16);
+    shape.layout
+}
+
+// A header size, or LACKING where there are fewer bytes.
+fn sized(s: &[u8], size: usize) -> usize
+    ensures { λ r. ⌜ r ≡ enough (now (s .entry)) size ⌝ }
+{
+    if s.len() < size { LACKING } else { size }
+}
+
+// The header's size, or BAD_TYPE, or LACKING.
+pub fn size_of(s: &[u8], word: u32, flags: u32) -> usize
+    ensures { λ r. ⌜ r ≡ sizeOf (now (s .entry)) word flags ⌝ }
+    ensures { λ r. ⌜ Measured (now (s .entry)) flags r ⌝ }
+{
+    if is_legacy(flags) {
+        return sized(s, 32);
+    }
+    if s.len() < 8 {
+        return LACKING;
+    }
+    let shape = shape_of(s, word / 256 % 16);
+    sized(s, shape.size)
+}
+
+// What one try finds.
+pub fn frame(s: &[u8], rules: &[u32]) -> Head
+    ensures { λ r. ⌜ r ≡ headOf (now (rules .entry)) (now (s .entry)) ⌝ }
+    ensures { λ r. ⌜ Bounded r ⌝ }
+{
+    let word = word_of(s);
+    if word == ENDED {
+        return Head::Ended;
+    }
+    let flags = rules::flags(rules, word);
+    let size = size_of(s, word, flags);
+    if size == BAD_TYPE {
+        return Head::BadType(word / 256 % 16);
+    }
+    if size == LACKING {
+        return Head::BadHeader;
+    }
+    Head::Record {
+        word: word,
+        flags: flags,
+        declared: declared_of(s, flags),
+        size: size,
+    }
+}

@@ -1,0 +1,5 @@
+pub mod Bools
+pub mod Digits
+pub mod Fields
+pub mod Full
+pub mod Runs
