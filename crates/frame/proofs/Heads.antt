@@ -1,12 +1,15 @@
 -- The header by its parts: what it is, from its word and its size.
 -- By the tests of the definition, in their order. Assumes nothing.
-use mathlib.Core.Path.{_≡_, refl, sym}
+use mathlib.Core.Path.{_≡_, refl, sym, _∙_}
+use mathlib.Core.Bool.{Bool, true, false, cond}
 use mathlib.Core.List.{List}
-use Prim.Native.Nat.{ℕ, _<_}
+use Prim.Native.Nat.{ℕ, _≤_, _<_}
 use native.Mathlib.Omega.{arith}
-use borrow.Author.Tests.{eq-eqb, ne-eqb}
-use Rattle.frame.specs.Version.{ended, headerType}
-use Rattle.frame.specs.Frame.{declaredOf, badType, lacking, sizeOf, headWith}
+use lib.Dec.{eqb}
+use borrow.Author.Tests.{eq-eqb, ne-eqb, eqb-false}
+use Rattle.rules.specs.Rules.{flagsOf}
+use Rattle.frame.specs.Version.{ended, wordOf, headerType}
+use Rattle.frame.specs.Frame.{declaredOf, badType, lacking, sizeOf, headWith, headOf}
 use Rattle.frame.specs.declared.Head.the-variants.{Ended, BadHeader, BadType, Record}
 
 module _ (bs : List ℕ) (word flags : ℕ) where
@@ -29,3 +32,49 @@ module _ (bs : List ℕ) (word flags : ℕ) where
       let no-type : sizeOf bs word flags ≡ badType → ⊥ = λ e. omega arith in
       let no-lack : sizeOf bs word flags ≡ lacking → ⊥ = λ e. omega arith in
       rw (ne-eqb word ended f, ne-eqb (sizeOf bs word flags) badType no-type, ne-eqb (sizeOf bs word flags) lacking no-lack)
+
+-- ---- a record that was found
+
+pub record Told (rules bs : List ℕ) (word flags declared size : ℕ) : Type 0 where
+  pub word-is : word ≡ wordOf bs
+  pub there : word ≡ ended → ⊥
+  pub flags-are : flags ≡ flagsOf rules word
+  pub declared-is : declared ≡ declaredOf bs flags
+  pub size-is : size ≡ sizeOf bs word flags
+  pub found : lacking < sizeOf bs word flags
+
+pub record-told : (rules bs : List ℕ) {word flags declared size : ℕ} → headOf rules bs ≡ Record word flags declared size → Told rules bs word flags declared size
+unfolding headOf headWith
+record-told rules bs {word} {flags} {declared} {size} h =
+    by (eqb w ended) refl (eqb z badType) refl (eqb z lacking) refl h
+  where
+    w : ℕ
+    w = wordOf bs
+
+    f : ℕ
+    f = flagsOf rules w
+
+    z : ℕ
+    z = sizeOf bs w f
+
+    by : (i : Bool) → eqb w ended ≡ i → (j : Bool) → eqb z badType ≡ j → (k : Bool) → eqb z lacking ≡ k
+        → cond i Ended (cond j (BadType (headerType w)) (cond k BadHeader (Record w f (declaredOf bs f) z))) ≡ Record word flags declared size
+        → Told rules bs word flags declared size
+    by true i j p k q h = absurd (let o : _≡_ {A = ℕ} 0 1 = cc in omega arith)
+    by false i true p k q h = absurd (let o : _≡_ {A = ℕ} 0 1 = cc in omega arith)
+    by false i false p true q h = absurd (let o : _≡_ {A = ℕ} 0 1 = cc in omega arith)
+    by false i false p false q h =
+        let word-is : word ≡ w = cc in
+        let flags-are : flags ≡ f = cc in
+        let declared-is : declared ≡ declaredOf bs f = cc in
+        let size-is : size ≡ z = cc in
+        let some : z ≡ badType → ⊥ = eqb-false z badType p in
+        let more : z ≡ lacking → ⊥ = eqb-false z lacking q in
+        record {
+          word-is = word-is;
+          there = λ e. eqb-false w ended i (sym word-is ∙ e);
+          flags-are = rw word-is flags-are;
+          declared-is = rw flags-are declared-is;
+          size-is = rw (word-is, flags-are) size-is;
+          found = rw (word-is, flags-are) (omega arith);
+        }

@@ -8,7 +8,7 @@ use Rattle.le.specs.Le.{le}
 use Rattle.rules.specs.Rules.{has, legacyServer, legacyGpu, legacyServerBox, sizesInBytes, flagsOf}
 use Rattle.frame.specs.Version.{ended, wordOf, headerType, recordType}
 use Rattle.frame.specs.declared.Layout.{Layout}
-use Rattle.frame.specs.declared.Layout.the-variants.{Type0, Type1, Type2, Type3, Type4, Type5, Type6, Type0LegacyServer, Type0LegacyGpu, Bad}
+use Rattle.frame.specs.declared.Layout.the-variants.{Zero, One, Two, Three, Four, Five, Six, LegacyServer, LegacyGpu, Bad}
 use Rattle.frame.specs.declared.Shape.{Shape}
 use Rattle.frame.specs.declared.Head.{Head}
 use Rattle.frame.specs.declared.Head.the-variants.{Ended, BadHeader, BadType, Record}
@@ -38,52 +38,56 @@ unit flags = cond (has flags sizesInBytes) 1 4
 unfoldable pub declaredOf : List ℕ → ℕ → ℕ
 declaredOf bs flags = (recordSize bs flags + extendedSize bs flags) * unit flags
 
--- ---- layout and header size
+-- ---- layout
 
-abbrev pub shape : Layout → ℕ → Shape
-shape layout size = record { layout = layout; size = size }
+-- the layouts of the header types 0 to 6; every other type is bad
+abbrev pub typeLayout : ℕ → Layout
+typeLayout t = getD (Zero ∷ One ∷ Two ∷ Three ∷ Four ∷ Five ∷ Six ∷ []) t Bad
 
--- the count of status words of a type 6 header; 0 where its bytes are lacking
-abbrev pub countOf : List ℕ → ℕ
-countOf bs = cond (ltb (length bs) 28) 0 (le 2 bs 26 % 128)
+-- flag 1 chooses the legacy server layout, else flag 2 the legacy GPU layout, else the header type decides
+abbrev pub layoutOf : ℕ → ℕ → Layout
+layoutOf word flags =
+    cond (has flags legacyServer) LegacyServer
+    (cond (has flags legacyGpu) LegacyGpu (typeLayout (headerType word)))
 
--- what `sizeOf` gives in the place of a size
+-- ---- header size
+
+-- what stands for a size where there is none
 abbrev pub badType : ℕ
 badType = 0
 
 abbrev pub lacking : ℕ
 lacking = 1
 
--- layout and header size of the types 0 to 6; every other type is bad
-abbrev pub shapes : List ℕ → List Shape
-shapes bs =
-    shape Type0 8
-    ∷ shape Type1 8
-    ∷ shape Type2 24
-    ∷ shape Type3 28
-    ∷ shape Type4 32
-    ∷ shape Type5 32
-    ∷ shape Type6 (28 + 4 * countOf bs)
-    ∷ []
+-- the size of a layout's header, with so many status words
+abbrev pub sizeFor : Layout → ℕ → ℕ
+sizeFor Zero count = 8
+sizeFor One count = 8
+sizeFor Two count = 24
+sizeFor Three count = 28
+sizeFor Four count = 32
+sizeFor Five count = 32
+sizeFor Six count = 28 + 4 * count
+sizeFor LegacyServer count = 32
+sizeFor LegacyGpu count = 32
+sizeFor Bad count = badType
 
+-- the count of status words of a type 6 header; 0 where its bytes are lacking
+abbrev pub countOf : List ℕ → ℕ
+countOf bs = cond (ltb (length bs) 28) 0 (le 2 bs 26 % 128)
+
+-- the layout that a header type chooses, and the header's size
 abbrev pub shapeOf : List ℕ → ℕ → Shape
-shapeOf bs t = getD (shapes bs) t (shape Bad badType)
+shapeOf bs t = record { layout = typeLayout t; size = sizeFor (typeLayout t) (countOf bs) }
 
--- flag 1 chooses the legacy server layout, else flag 2 the legacy GPU layout, else the header type decides
-abbrev pub layoutOf : List ℕ → ℕ → ℕ → Layout
-layoutOf bs word flags =
-    cond (has flags legacyServer) Type0LegacyServer
-    (cond (has flags legacyGpu) Type0LegacyGpu (shapeOf bs (headerType word) .layout))
-
--- a header size, where there are so many bytes
+-- a size, where there are so many bytes
 abbrev pub enough : List ℕ → ℕ → ℕ
 enough bs size = cond (ltb (length bs) size) lacking size
 
--- the header's size, or that its type is bad, or that bytes are lacking; the sizes are read before the type is judged
+-- the header's size, or that bytes are lacking, or that its type is bad; the sizes are read before the type is judged
 unfoldable pub sizeOf : List ℕ → ℕ → ℕ → ℕ
 sizeOf bs word flags =
-    cond (legacy flags) (enough bs 32)
-    (cond (ltb (length bs) 8) lacking (enough bs (shapeOf bs (headerType word) .size)))
+    cond (ltb (length bs) (sizesEnd flags)) lacking (enough bs (sizeFor (layoutOf word flags) (countOf bs)))
 
 -- ---- one try
 

@@ -15,15 +15,15 @@ use version::word_of;
 
 // How the fields of a header lie.
 pub enum Layout {
-    Type0,
-    Type1,
-    Type2,
-    Type3,
-    Type4,
-    Type5,
-    Type6,
-    Type0LegacyServer,
-    Type0LegacyGpu,
+    Zero,
+    One,
+    Two,
+    Three,
+    Four,
+    Five,
+    Six,
+    LegacyServer,
+    LegacyGpu,
     Bad,
 }
 
@@ -129,31 +129,31 @@ pub fn shape_of(s: &[u8], header_type: u32) -> Shape
 {
     match header_type {
         0 => Shape {
-            layout: Layout::Type0,
+            layout: Layout::Zero,
             size: 8,
         },
         1 => Shape {
-            layout: Layout::Type1,
+            layout: Layout::One,
             size: 8,
         },
         2 => Shape {
-            layout: Layout::Type2,
+            layout: Layout::Two,
             size: 24,
         },
         3 => Shape {
-            layout: Layout::Type3,
+            layout: Layout::Three,
             size: 28,
         },
         4 => Shape {
-            layout: Layout::Type4,
+            layout: Layout::Four,
             size: 32,
         },
         5 => Shape {
-            layout: Layout::Type5,
+            layout: Layout::Five,
             size: 32,
         },
         6 => Shape {
-            layout: Layout::Type6,
+            layout: Layout::Six,
             size: 28 + 4 * count_of(s),
         },
         7..=15 => Shape {
@@ -169,13 +169,13 @@ pub fn shape_of(s: &[u8], header_type: u32) -> Shape
 
 // The layout that the flags choose, or else the header type.
 pub fn layout_of(s: &[u8], word: u32, flags: u32) -> Layout
-    ensures { λ r. ⌜ r ≡ layoutOf (now (s .entry)) word flags ⌝ }
+    ensures { λ r. ⌜ r ≡ layoutOf word flags ⌝ }
 {
     if rules::has_flag(flags, rules::LEGACY_SERVER) {
-        return Layout::Type0LegacyServer;
+        return Layout::LegacyServer;
     }
     if rules::has_flag(flags, rules::LEGACY_GPU) {
-        return Layout::Type0LegacyGpu;
+        return Layout::LegacyGpu;
     }
     let shape = shape_of(s, word / 256 % 16);
     shape.layout

@@ -4,9 +4,12 @@ use mathlib.Core.Path.{_≡_, ap, _∙_}
 use Prim.Native.Nat.{ℕ, suc, _+_, _*_, _≤_}
 use borrow.Author.Needs.{zero≤}
 use native.Mathlib.Omega.{arith}
-use Rattle.frame.specs.Frame.{shape}
-use Rattle.frame.specs.declared.Layout.the-variants.{Type6}
-use Rattle.frame.proofs.Sizes.{shape-bad}
+use mathlib.Core.List.{List}
+use Rattle.frame.specs.Frame.{badType, typeLayout, sizeFor, countOf, shapeOf}
+use Rattle.frame.specs.declared.Layout.{Layout}
+use Rattle.frame.specs.declared.Shape.{Shape}
+use Rattle.frame.specs.declared.Layout.the-variants.{Six, Bad}
+use Rattle.frame.proofs.Sizes.{layout-bad}
 use borrow.Author.Needs.{needs}
 use Rattle.frame.proofs.shape_of.Statement.{statement}
 use Rattle.frame.proofs.shape_of.Tie as tie
@@ -18,6 +21,10 @@ past k h f = omega arith
 -- past every type that has an arm of its own
 beyond : (c : tie.At-match-rest) → 7 ≤ c .before .before .args .header-type
 beyond c = past 6 (past 5 (past 4 (past 3 (past 2 (past 1 (past 0 zero≤ (c .match .rest .0 .0 .0 .0 .0 .0 .1)) (c .match .rest .0 .0 .0 .0 .0 .1)) (c .match .rest .0 .0 .0 .0 .1)) (c .match .rest .0 .0 .0 .1)) (c .match .rest .0 .0 .1)) (c .match .rest .0 .1)) (c .match .rest .1)
+
+-- a bad layout has no size
+bad : (bs : List ℕ) (t : ℕ) → Bad ≡ typeLayout t → record { layout = Bad; size = badType } ≡ shapeOf bs t
+bad bs t e = ap (λ (l : Layout). record { layout = l; size = sizeFor l (countOf bs) }) e
 
 count-of-requires : tie.Need-count-of-requires
 count-of-requires c κs = search needs
@@ -47,13 +54,13 @@ returns-6 : tie.Need-returns-6
 returns-6 c = rw (c .match .keys6)
 
 returns-7 : tie.Need-returns-7
-returns-7 c = rw (c .before .match .keys7) (ap (λ (n : ℕ). shape Type6 (28 + 4 * n)) (c .count-of .ensures .0))
+returns-7 c = rw (c .before .match .keys7) (ap (λ (n : ℕ). record { layout = Six; size = 28 + 4 * n }) (c .count-of .ensures .0))
 
 returns-8 : tie.Need-returns-8
-returns-8 c = shape-bad (c .before .before .before .args .s .now) (c .before .before .before .args .header-type) (beyond (c .before))
+returns-8 c = bad (c .before .before .before .args .s .now) (c .before .before .before .args .header-type) (layout-bad (c .before .before .before .args .header-type) (beyond (c .before)))
 
 returns-9 : tie.Need-returns-9
-returns-9 c = shape-bad (c .before .before .before .args .s .now) (c .before .before .before .args .header-type) (beyond (c .before))
+returns-9 c = bad (c .before .before .before .args .s .now) (c .before .before .before .args .header-type) (layout-bad (c .before .before .before .args .header-type) (beyond (c .before)))
 
 pub shape-of-spec : {M : Type 1} → statement M
 shape-of-spec =

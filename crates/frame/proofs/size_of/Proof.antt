@@ -6,7 +6,7 @@ use Prim.Native.Nat.{ℕ}
 use native.Mathlib.Omega.{arith}
 use Rattle.frame.specs.declared.Shape.{Shape}
 use Rattle.frame.specs.Frame.{enough, sizeOf, Measured}
-use Rattle.frame.proofs.Sizes.{measured, size-legacy, size-short, size-typed}
+use Rattle.frame.proofs.Sizes.{plain-end, measured, size-legacy, size-short, size-typed}
 use borrow.Author.Needs.{needs}
 use Rattle.frame.proofs.size_of.Statement.{statement}
 use Rattle.frame.proofs.size_of.Tie as tie
@@ -29,7 +29,7 @@ returns c =
 returns-2 : tie.Need-returns-2
 returns-2 c =
     let a = c .before .before .before .before .args in
-    both (a .s .now) (a .word) (a .flags) 1 (size-short (a .s .now) (a .word) (a .flags) (sym (c .before .before .is-legacy .ensures) ∙ c .before .if1 .left) (omega arith))
+    both (a .s .now) (a .word) (a .flags) 1 (size-short (a .s .now) (a .word) (a .flags) (omega (arith, plain-end (a .flags) (sym (c .before .before .is-legacy .ensures) ∙ c .before .if1 .left))))
 
 shape-of-requires : tie.Need-shape-of-requires
 shape-of-requires c κs = search needs

@@ -1,0 +1,69 @@
+-- `header_of` gives the whole header.
+-- From its parts; the bytes of the layout are there because a size was found. Assumes nothing.
+use mathlib.Core.Path.{_≡_, ap₂}
+use mathlib.Core.List.{List}
+use Prim.Native.Nat.{ℕ, _≤_, _<_}
+use lib.ListN.{length}
+use Rattle.frame.specs.Version.{versionOf}
+use Rattle.frame.specs.Frame.{recordSize, extendedSize, lacking, sizeFor, countOf, layoutOf, sizeOf}
+use Rattle.frame.specs.declared.RecordSize.{RecordSize}
+use Rattle.frame.specs.declared.version.Version.{Version}
+use Rattle.header.specs.declared.Header.{Header}
+use Rattle.header.specs.declared.HeaderType.{HeaderType}
+use Rattle.header.specs.Layouts.{typeFrom, statusesFrom}
+use Rattle.header.specs.Header.{numbersOf, headerOf}
+use Rattle.frame.specs.declared.Layout.{Layout}
+use Rattle.frame.proofs.Sizes.{size-found}
+use borrow.Author.Needs.{needs}
+use Rattle.header.proofs.header_of.Statement.{statement}
+use Rattle.header.proofs.header_of.Tie as tie
+
+-- the bytes of the layout are there
+there : (bs : List ℕ) (word flags : ℕ) (l : Layout) → l ≡ layoutOf word flags → lacking < sizeOf bs word flags → sizeFor l (countOf bs) ≤ length bs
+there bs word flags l e h =
+    let found = size-found bs word flags h in
+    rw (e, ← found .1) (found .2)
+
+abbrev sizes : ℕ → ℕ → RecordSize
+sizes a b = record { «record_size» = a; «extended_record_size» = b }
+
+-- a header is its parts
+assembled : (bs : List ℕ) (word flags : ℕ) {l : Layout} {v : Version} {z : RecordSize} {t : HeaderType} {ws : List ℕ}
+    → l ≡ layoutOf word flags → v ≡ versionOf word
+    → (z .«record_size» ≡ recordSize bs flags) × (z .«extended_record_size» ≡ extendedSize bs flags)
+    → t ≡ typeFrom l (numbersOf bs l) → ws ≡ statusesFrom (numbersOf bs l)
+    → record { version = v; size = z; «header_type» = t; «completion_statuses» = ws } ≡ headerOf bs word flags
+assembled bs word flags e v z t ws =
+    let size = ap₂ (λ (a b : ℕ). sizes a b) (z .0) (z .1) in
+    rw (v, size, t, ws, e)
+
+layout-of-requires : tie.Need-layout-of-requires
+layout-of-requires c κs = search needs
+
+from-u32-requires : tie.Need-from-u32-requires
+from-u32-requires c κs = search needs
+
+sizes-of-requires : tie.Need-sizes-of-requires
+sizes-of-requires c κs = size-found (c .before .before .before .args .s .now) (c .before .before .before .args .word) (c .before .before .before .args .flags) (c .before .before .before .pre) .0
+
+fields-of-requires : tie.Need-fields-of-requires
+fields-of-requires c κs = there (c .before .before .before .before .args .s .now) (c .before .before .before .before .args .word) (c .before .before .before .before .args .flags) (c .before .before .layout-of .result) (c .before .before .layout-of .ensures) (c .before .before .before .before .pre)
+
+statuses-of-requires : tie.Need-statuses-of-requires
+statuses-of-requires c κs = there (c .before .before .before .before .before .args .s .now) (c .before .before .before .before .before .args .word) (c .before .before .before .before .before .args .flags) (c .before .before .before .layout-of .result) (c .before .before .before .layout-of .ensures) (c .before .before .before .before .before .pre)
+
+returns : tie.Need-returns
+returns c =
+    let a = c .before .before .before .before .before .before .args in
+    assembled (a .s .now) (a .word) (a .flags) (c .before .before .before .before .layout-of .ensures) (c .before .before .before .from-u32 .ensures) (c .before .before .sizes-of .ensures) (c .before .fields-of .ensures) (c .statuses-of .ensures)
+
+pub header-of-spec : {M : Type 1} → statement M
+header-of-spec =
+    tie.close
+    (tie.spec
+    layout-of-requires
+    from-u32-requires
+    sizes-of-requires
+    fields-of-requires
+    statuses-of-requires
+    returns)
