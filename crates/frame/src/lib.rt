@@ -167,8 +167,8 @@ pub fn shape_of(s: &[u8], header_type: u32) -> Shape
     }
 }
 
-// The layout that the flags choose, or else the header type.
-pub fn layout_of(s: &[u8], word: u32, flags: u32) -> Layout
+// The layout that the flags choose, or else the header type; no type's layout depends on the bytes.
+pub fn layout_of(word: u32, flags: u32) -> Layout
     ensures { λ r. ⌜ r ≡ layoutOf word flags ⌝ }
 {
     if rules::has_flag(flags, rules::LEGACY_SERVER) {
@@ -177,7 +177,7 @@ pub fn layout_of(s: &[u8], word: u32, flags: u32) -> Layout
     if rules::has_flag(flags, rules::LEGACY_GPU) {
         return Layout::LegacyGpu;
     }
-    let shape = shape_of(s, word / 256 % 16);
+    let shape = shape_of(b"", word / 256 % 16);
     shape.layout
 }
 

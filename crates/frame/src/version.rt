@@ -23,7 +23,7 @@ pub enum Start {
 pub const ENDED: u32 = 0;
 
 // The word that marks the end of the records, beside 0.
-const END_MARK: u32 = 0xdeadbeef;
+pub const END_MARK: u32 = 0xdeadbeef;
 
 // The version word, or ENDED.
 pub fn word_of(s: &[u8]) -> u32
@@ -71,13 +71,13 @@ impl Version {
             + (self.header_type as u32) * 256
             + self.product_id * 4096
             + (self.record_type as u32) * 16777216
-            + one(self.cldic) * 1073741824
-            + one(self.consumed) * 2147483648
+            + bit_of(self.cldic) * 1073741824
+            + bit_of(self.consumed) * 2147483648
     }
 }
 
-// A bit as a number.
-fn one(b: bool) -> u32
+// A yes/no as a bit.
+pub fn bit_of(b: bool) -> u32
     ensures { λ r. ⌜ (r ≡ bit b) × (r ≤ 1) ⌝ }
 {
     if b { 1 } else { 0 }

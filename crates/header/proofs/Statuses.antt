@@ -3,36 +3,28 @@
 use mathlib.Core.Path.{_≡_, refl, sym, ap, ap₂, _∙_}
 use mathlib.Core.List.{List, [], _∷_, _++_}
 use Prim.Native.Nat.{ℕ, zero, suc, _+_, _*_, _-_, _≤_, _<_}
-use native.Mathlib.Nat.{add-zero}
 use native.Mathlib.Omega.{arith}
 use lib.ListN.{length, set, drop, replicate, length-append}
 use lib.Seq.{set-at, append-snoc}
 use Rattle.le.specs.Le.{le}
-use Rattle.layout.specs.Fields.{readAll}
-use Rattle.layout.specs.Runs.{cellsFrom, cells}
+use Rattle.layout.specs.Fields.{Field, field, readAll}
+use Rattle.layout.specs.Runs.{cells}
 use Rattle.layout.proofs.Fields.{length-read}
+use Rattle.layout.proofs.Runs.{length-cells, last-cell, read-append}
 use Rattle.frame.specs.declared.Layout.{Layout}
 use Rattle.frame.specs.declared.Layout.the-variants.{Zero, One, Two, Three, Four, Five, Six, LegacyServer, LegacyGpu, Bad}
 use Rattle.frame.specs.Frame.{countOf}
 use Rattle.header.specs.Layouts.{padded, tableOf, statusesFrom}
 use Rattle.header.specs.Header.{numbersOf}
 
-read-last-from : (bs : List ℕ) (at w k n : ℕ) → readAll (cellsFrom at w k (suc n)) bs ≡ readAll (cellsFrom at w k n) bs ++ (le w bs (at + w * (k + n)) ∷ [])
-unfolding readAll
-read-last-from bs at w k zero = rw (add-zero k)
-read-last-from bs at w k (suc n) =
-    let e : suc k + n ≡ k + suc n = omega arith in
-    ap (λ (l : List ℕ). le w bs (at + w * k) ∷ l) (read-last-from bs at w (suc k) n ∙ rw e)
-
 -- the last number of a run
 read-last : (bs : List ℕ) (at w n : ℕ) → readAll (cells at w (suc n)) bs ≡ readAll (cells at w n) bs ++ (le w bs (at + w * n) ∷ [])
+unfolding readAll
 read-last bs at w n =
     let e : 0 + n ≡ n = omega arith in
-    read-last-from bs at w 0 n ∙ ap (λ (k : ℕ). readAll (cells at w n) bs ++ (le w bs (at + w * k) ∷ [])) e
-
-length-cells : (at w k n : ℕ) → length (cellsFrom at w k n) ≡ n
-length-cells at w k zero = refl
-length-cells at w k (suc n) = ap suc (length-cells at w (suc k) n)
+    ap (λ (fs : List Field). readAll fs bs) (last-cell at w 0 n)
+    ∙ read-append (cells at w n) (field (at + w * (0 + n)) w ∷ []) bs
+    ∙ ap (λ (k : ℕ). readAll (cells at w n) bs ++ (le w bs (at + w * k) ∷ [])) e
 
 pub length-words : (bs : List ℕ) (n : ℕ) → length (readAll (cells 28 4 n) bs) ≡ n
 length-words bs n = length-read (cells 28 4 n) bs ∙ length-cells 28 4 0 n

@@ -13,10 +13,10 @@ use crate::HeaderType;
 use frame::Layout;
 
 // The fields that most layouts share.
-struct Stamp {
-    timestamp: u64,
-    agent_version: u32,
-    reason: u32,
+pub struct Stamp {
+    pub timestamp: u64,
+    pub agent_version: u32,
+    pub reason: u32,
 }
 
 fn stamp_of(s: &[u8]) -> Stamp

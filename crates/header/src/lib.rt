@@ -5,7 +5,7 @@ ghost use Rattle.frame.specs.Frame.{lacking, sizeOf};
 ghost use Rattle.header.specs.Header.{headerOf, refusal, decodedOf};
 
 pub mod access;
-mod fields;
+pub mod fields;
 
 use fields::fields_of;
 use fields::statuses_of;
@@ -102,7 +102,7 @@ fn header_of(s: &[u8], word: u32, flags: u32) -> Header
     requires { ⌜ lacking < sizeOf (now s) word flags ⌝ }
     ensures { λ r. ⌜ r ≡ headerOf (now (s .entry)) word flags ⌝ }
 {
-    let layout = frame::layout_of(s, word, flags);
+    let layout = frame::layout_of(word, flags);
     let version = Version::from_u32(word);
     let size = frame::sizes_of(s, flags);
     let header_type = fields_of(s, layout);

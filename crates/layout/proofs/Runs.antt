@@ -15,12 +15,12 @@ use Rattle.layout.specs.Runs.{Run, cellsFrom, cells, fieldsOf, flat, joi
 use Rattle.layout.proofs.Fields.{write-outside, read-write, write-read, length-read, length-write, below-read, write-back}
 use Rattle.layout.proofs.Full.{write-full}
 
-read-append : (fs gs : List Field) (bs : List ℕ) → readAll (fs ++ gs) bs ≡ readAll fs bs ++ readAll gs bs
+pub read-append : (fs gs : List Field) (bs : List ℕ) → readAll (fs ++ gs) bs ≡ readAll fs bs ++ readAll gs bs
 unfolding readAll
 read-append [] gs bs = refl
 read-append (f ∷ fs) gs bs = ap (λ (l : List ℕ). le (f .width) bs (f .at) ∷ l) (read-append fs gs bs)
 
-write-append : (fs gs : List Field) (vs ws bs : List ℕ) → length vs ≡ length fs → writeAll (fs ++ gs) (vs ++ ws) bs ≡ writeAll gs ws (writeAll fs vs bs)
+pub write-append : (fs gs : List Field) (vs ws bs : List ℕ) → length vs ≡ length fs → writeAll (fs ++ gs) (vs ++ ws) bs ≡ writeAll gs ws (writeAll fs vs bs)
 unfolding writeAll
 write-append [] gs [] ws bs e = refl
 write-append [] gs (v ∷ vs) ws bs e = absurd (omega arith)
@@ -29,7 +29,7 @@ write-append (f ∷ fs) gs (v ∷ vs) ws bs e = write-append fs gs vs ws (put (f
 
 -- ---- one run
 
-length-cells : (at w k n : ℕ) → length (cellsFrom at w k n) ≡ n
+pub length-cells : (at w k n : ℕ) → length (cellsFrom at w k n) ≡ n
 length-cells at w k zero = refl
 length-cells at w k (suc n) = ap suc (length-cells at w (suc k) n)
 
@@ -71,7 +71,7 @@ fits-append lo m n [] (g ∷ gs) p q = (omega arith, q .1)
 fits-append lo m n (f ∷ fs) gs p q = (p .0, fits-append (f .at + f .width) m n fs gs (p .1) q)
 
 -- the last number of a run
-last-cell : (at w k n : ℕ) → cellsFrom at w k (suc n) ≡ cellsFrom at w k n ++ (field (at + w * (k + n)) w ∷ [])
+pub last-cell : (at w k n : ℕ) → cellsFrom at w k (suc n) ≡ cellsFrom at w k n ++ (field (at + w * (k + n)) w ∷ [])
 last-cell at w k zero = ap (λ (i : ℕ). field (at + w * i) w ∷ []) (sym (add-zero k))
 last-cell at w k (suc n) =
     let e : suc k + n ≡ k + suc n = omega arith in
@@ -79,7 +79,8 @@ last-cell at w k (suc n) =
     (last-cell at w (suc k) n
     ∙ ap (λ (i : ℕ). cellsFrom at w (suc k) n ++ (field (at + w * i) w ∷ [])) e)
 
-write-first : (at w n : ℕ) (v bs : List ℕ) → n ≤ length v → putRun w n bs at v ≡ writeAll (cells at w n) (take n v) bs
+-- the first numbers of a list, written one after the other
+pub write-first : (at w n : ℕ) (v bs : List ℕ) → n ≤ length v → putRun w n bs at v ≡ writeAll (cells at w n) (take n v) bs
 unfolding writeAll putRun
 write-first at w zero v bs h = refl
 write-first at w (suc n) v bs h =

@@ -1,0 +1,101 @@
+-- Whether a header can be encoded, by the code's tests, and what follows where it can.
+-- By the parts of the conjunctions. Assumes nothing.
+use mathlib.Core.Path.{_≡_, refl, sym, ap, _∙_}
+use mathlib.Core.Bool.{Bool, true, false, not, _&&_}
+use mathlib.Core.List.{List}
+use Prim.Native.Nat.{ℕ, _≤_, _<_}
+use native.Mathlib.Omega.{arith}
+use lib.Dec.{eqb, leb, ltb}
+use borrow.Author.Tests.{ltb-true, leb-true, eq-eqb, ne-eqb}
+use Rattle.layout.proofs.Bools.{both}
+use Rattle.rules.specs.Rules.{flagsOf}
+use Rattle.frame.specs.Version.{InBits, ended, wordFrom}
+use Rattle.frame.specs.Frame.{layoutOf}
+use Rattle.frame.specs.declared.version.Version.{Version}
+use Rattle.header.specs.Access.{layoutIn, countIn}
+use Rattle.header.specs.declared.Header.{Header}
+use Rattle.header.specs.declared.HeaderType.{HeaderType}
+use Rattle.header.specs.declared.HeaderType.the-variants.{Type0, Type1, Type2, Type3, Type4, Type5, Type6, Type0LegacyServer, Type0LegacyGpu}
+use Rattle.encode.specs.Encode.{versionFits, readable, layoutNumber, layoutFits, fieldsFit, encodable}
+
+-- a version that fits is within its bits
+pub in-bits : (v : Version) → versionFits v ≡ true → InBits v
+in-bits v e =
+    let a = ltb (v .revision) 256 in
+    let b = ltb (v .«header_type») 16 in
+    let c = ltb (v .«product_id») 4096 in
+    let d = ltb (v .«record_type») 64 in
+    let p = both a (b && (c && d)) e in
+    let q = both b (c && d) (p .1) in
+    let r = both c d (q .1) in
+    record {
+      revision = ltb-true (v .revision) 256 (p .0);
+      header = ltb-true (v .«header_type») 16 (q .0);
+      product = ltb-true (v .«product_id») 4096 (r .0);
+      kind = ltb-true (v .«record_type») 64 (r .1);
+    }
+
+module _ (rules : List ℕ) (h : Header) where
+  abbrev word : ℕ
+  word = wordFrom (h .version)
+
+  abbrev fit : Bool
+  fit = fieldsFit (h .«header_type») (h .version .revision) (h .size .«extended_record_size»)
+
+  abbrev chosen : Bool
+  chosen = layoutFits rules word (h .«header_type»)
+
+  -- ---- the refusals, in the code's order
+
+  pub not-in-bits : versionFits (h .version) ≡ false → false ≡ encodable rules h
+  unfolding encodable
+  not-in-bits e = rw e
+
+  pub not-zero : versionFits (h .version) ≡ true → word ≡ ended → false ≡ encodable rules h
+  unfolding encodable
+  not-zero e f = rw (e, eq-eqb word ended f)
+
+  pub not-marked : versionFits (h .version) ≡ true → (word ≡ ended → ⊥) → word ≡ 0xdeadbeef → false ≡ encodable rules h
+  unfolding encodable
+  not-marked e z f = rw (e, ne-eqb word ended z, eq-eqb word 0xdeadbeef f)
+
+  pub not-chosen : versionFits (h .version) ≡ true → (word ≡ ended → ⊥) → (word ≡ 0xdeadbeef → ⊥) → chosen ≡ false → false ≡ encodable rules h
+  unfolding encodable
+  not-chosen e z m f = rw (e, ne-eqb word ended z, ne-eqb word 0xdeadbeef m, f)
+
+  pub as-fit : versionFits (h .version) ≡ true → (word ≡ ended → ⊥) → (word ≡ 0xdeadbeef → ⊥) → chosen ≡ true → fit ≡ encodable rules h
+  unfolding encodable
+  as-fit e z m f = rw (e, ne-eqb word ended z, ne-eqb word 0xdeadbeef m, f)
+
+  -- ---- a header that can be encoded
+
+  pub can-version : encodable rules h ≡ true → versionFits (h .version) ≡ true
+  unfolding encodable
+  can-version e = both (versionFits (h .version)) (readable word && (chosen && fit)) e .0
+
+  pub can-read : encodable rules h ≡ true → readable word ≡ true
+  unfolding encodable
+  can-read e = both (readable word) (chosen && fit) (both (versionFits (h .version)) (readable word && (chosen && fit)) e .1) .0
+
+  pub can-choose : encodable rules h ≡ true → chosen ≡ true
+  unfolding encodable
+  can-choose e = both chosen fit (both (readable word) (chosen && fit) (both (versionFits (h .version)) (readable word && (chosen && fit)) e .1) .1) .0
+
+  pub can-fit : encodable rules h ≡ true → fit ≡ true
+  unfolding encodable
+  can-fit e = both chosen fit (both (readable word) (chosen && fit) (both (versionFits (h .version)) (readable word && (chosen && fit)) e .1) .1) .1
+
+-- a header that can be encoded has at most 127 status words
+few-statuses : (t : HeaderType) (rev ext : ℕ) → fieldsFit t rev ext ≡ true → countIn t ≤ 127
+few-statuses Type0 rev ext e = omega arith
+few-statuses Type1 rev ext e = omega arith
+few-statuses (Type2 t a r) rev ext e = omega arith
+few-statuses (Type3 t a r s c) rev ext e = omega arith
+few-statuses (Type4 t a r w m) rev ext e = omega arith
+few-statuses (Type5 t a r s c d) rev ext e = omega arith
+few-statuses (Type6 t a r d k n c) rev ext e = leb-true n 127 e
+few-statuses (Type0LegacyServer t a r d k s c) rev ext e = omega arith
+few-statuses (Type0LegacyGpu t a r s c) rev ext e = omega arith
+
+pub can-count : (rules : List ℕ) (h : Header) → encodable rules h ≡ true → countIn (h .«header_type») ≤ 127
+can-count rules h e = few-statuses (h .«header_type») (h .version .revision) (h .size .«extended_record_size») (can-fit rules h e)

@@ -1,0 +1,95 @@
+-- What the encoder answers, and the output that it leaves (document 01: refusals 2, 11, 10 in that order).
+use Prim.Native.Nat.{ℕ}
+use mathlib.Core.Bool.{Bool, true, false, cond, not, _&&_, _||_}
+use mathlib.Core.List.{List, _++_}
+use lib.Dec.{eqb, leb, ltb}
+use lib.ListN.{length, drop}
+use Rattle.rules.specs.Rules.{validOf, flagsOf}
+use Rattle.frame.specs.Version.{ended, wordFrom}
+use Rattle.frame.specs.Frame.{layoutOf}
+use Rattle.frame.specs.declared.version.Version.{Version}
+use Rattle.frame.specs.declared.Layout.{Layout}
+use Rattle.frame.specs.declared.Layout.the-variants.{Zero, One, Two, Three, Four, Five, Six, LegacyServer, LegacyGpu, Bad}
+use Rattle.header.specs.Layouts.{serverDie}
+use Rattle.header.specs.Access.{layoutIn, headerSize}
+use Rattle.header.specs.declared.Header.{Header}
+use Rattle.header.specs.declared.HeaderType.{HeaderType}
+use Rattle.header.specs.declared.HeaderType.the-variants.{Type0, Type1, Type2, Type3, Type4, Type5, Type6, Type0LegacyServer, Type0LegacyGpu}
+use Rattle.encode.specs.Values.{headerBytes}
+use Rattle.encode.specs.declared.Answer.{Answer}
+use Rattle.encode.specs.declared.Answer.the-variants.{Done, BadRules, BadField, OutputShort}
+use Rattle.encode.specs.declared.Encoded.{Encoded}
+
+-- ---- when a header can be encoded
+
+-- each field of the version is within its bits
+abbrev pub versionFits : Version → Bool
+versionFits v =
+    ltb (v .revision) 256 && (ltb (v .«header_type») 16 && (ltb (v .«product_id») 4096 && ltb (v .«record_type») 64))
+
+-- a version word that does not read as ended
+abbrev pub readable : ℕ → Bool
+readable word = not (eqb word ended) && not (eqb word 0xdeadbeef)
+
+-- the layouts by number: the header type, then the two legacy layouts
+abbrev pub layoutNumber : Layout → ℕ
+layoutNumber Zero = 0
+layoutNumber One = 1
+layoutNumber Two = 2
+layoutNumber Three = 3
+layoutNumber Four = 4
+layoutNumber Five = 5
+layoutNumber Six = 6
+layoutNumber LegacyServer = 7
+layoutNumber LegacyGpu = 8
+layoutNumber Bad = 9
+
+-- a status that shares its word with complete
+abbrev pub statusFits : ℕ → Bool
+statusFits s = ltb s 2147483648
+
+-- the fields of a layout, beside a revision and an extended size
+abbrev pub fieldsFit : HeaderType → ℕ → ℕ → Bool
+fieldsFit Type0 rev ext = true
+fieldsFit Type1 rev ext = true
+fieldsFit (Type2 t a r) rev ext = true
+fieldsFit (Type3 t a r s c) rev ext = statusFits s
+fieldsFit (Type4 t a r w m) rev ext = true
+fieldsFit (Type5 t a r s c e) rev ext = statusFits s
+fieldsFit (Type6 t a r d k n c) rev ext = leb n 127
+fieldsFit (Type0LegacyServer t a r d k s c) rev ext = statusFits s && (eqb ext 0 && eqb d (serverDie rev))
+fieldsFit (Type0LegacyGpu t a r s c) rev ext = statusFits s && eqb ext 0
+
+-- the layout is the one that flags and type choose
+abbrev pub layoutFits : List ℕ → ℕ → HeaderType → Bool
+layoutFits rules word t = eqb (layoutNumber (layoutOf word (flagsOf rules word))) (layoutNumber (layoutIn t))
+
+unfoldable pub encodable : List ℕ → Header → Bool
+encodable rules h =
+    versionFits (h .version)
+    && (readable (wordFrom (h .version))
+    && (layoutFits rules (wordFrom (h .version)) (h .«header_type»)
+    && fieldsFit (h .«header_type») (h .version .revision) (h .size .«extended_record_size»)))
+
+-- ---- the answer
+
+abbrev pub answered : Answer → ℕ → Encoded
+answered a n = record { answer = a; length = n }
+
+-- the output at the end, and the answer
+unfoldable pub encodedOf : List ℕ → Header → List ℕ → List ℕ × Encoded
+encodedOf rules h out =
+    cond (validOf rules)
+    (cond (encodable rules h)
+    (cond (leb (headerSize (h .«header_type»)) (length out))
+    (headerBytes h ++ drop (headerSize (h .«header_type»)) out, answered Done (headerSize (h .«header_type»)))
+    (out, answered OutputShort 0))
+    (out, answered BadField 0))
+    (out, answered BadRules 0)
+
+-- document 01's number of each answer
+abbrev pub numberOf : Answer → ℕ
+numberOf Done = 0
+numberOf BadRules = 2
+numberOf BadField = 11
+numberOf OutputShort = 10
