@@ -1,0 +1,5 @@
+pub mod Shown
+pub mod Positions
+pub mod Bounds
+pub mod Limits
+pub mod Refusals

@@ -1,0 +1,71 @@
+-- What a try limit leaves: the whole listing where it is no smaller than the number of positions visited, else exactly the first tries and their rows.
+-- From what is shown of the tries. Assumes nothing.
+use mathlib.Core.Path.{_≡_, ap, _∙_}
+use mathlib.Core.List.{List, _++_}
+use mathlib.Core.Logic.{⊎-elim}
+use Prim.Native.Nat.{ℕ, _≤_, _<_, min}
+use native.Mathlib.Omega.{arith}
+use lib.ListN.{length, take, drop}
+use Rattle.region.specs.Trace.{Span, rowsIn, allTries}
+use Rattle.region.specs.Listing.{Shown, numberOf, shown, capacity, laid, worked, listed}
+use Rattle.region.specs.declared.Listing.{Listing}
+use Rattle.region.proofs.Orders.{le-or-lt}
+use Rattle.region.proofs.Shows.{listed-worked}
+use Rattle.region_laws.specs.Positions.{visited}
+use Rattle.region_laws.specs.Whole.{Accepted, allRows, rowsBy, Roomy, showing, wholeListing, cutListing}
+use Rattle.region_laws.proofs.Shown.{tries-le-limit, rows-shown, all-shown, cut-shown, rows-split}
+use Rattle.region_laws.proofs.Positions.{tries-visited}
+
+module _ (rules bytes : List ℕ) (t : List ℕ) (ok : Accepted rules bytes) where
+  listed-showing : (limit : ℕ) → listed rules bytes limit t ≡ showing rules bytes t (shown limit (capacity t) (allTries rules bytes))
+  unfolding worked
+  listed-showing limit = listed-worked rules bytes limit t (ok .short) (ok .valid)
+
+  -- ---- for any room
+
+  -- so many of the rows that the first tries find as there is room for
+  pub rows-by-limit : (limit : ℕ) → listed rules bytes limit t .0 ≡ laid (take (capacity t) (rowsBy limit rules bytes)) t
+  rows-by-limit limit =
+      ap (λ (x : List ℕ × Listing). x .0) (listed-showing limit)
+      ∙ ap (λ (rs : List Span). laid rs t) (rows-shown limit (capacity t) (allTries rules bytes))
+
+  pub row-count-by-limit : (limit : ℕ) → listed rules bytes limit t .1 .rows ≡ length (take (capacity t) (rowsBy limit rules bytes))
+  row-count-by-limit limit =
+      ap (λ (x : List ℕ × Listing). x .1 .rows) (listed-showing limit)
+      ∙ ap (λ (rs : List Span). length rs) (rows-shown limit (capacity t) (allTries rules bytes))
+
+  pub tries-within-limit : (limit : ℕ) → listed rules bytes limit t .1 .tries ≤ limit
+  tries-within-limit limit = rw (listed-showing limit) (tries-le-limit limit (capacity t) (allTries rules bytes))
+
+  -- ---- with room for every row
+
+  module _ (roomy : Roomy rules bytes t) (limit : ℕ) where
+    -- a limit no smaller than the number of positions visited
+    pub whole-listing : length (visited rules bytes) ≤ limit → listed rules bytes limit t ≡ wholeListing rules bytes t
+    whole-listing h =
+        let n : length (allTries rules bytes) ≡ length (visited rules bytes) = tries-visited rules bytes in
+        listed-showing limit
+        ∙ ap (λ (s : Shown). showing rules bytes t s) (all-shown limit (capacity t) (allTries rules bytes) (omega arith) roomy)
+        ∙ rw n
+
+    -- a smaller one
+    pub cut-listing : limit < length (visited rules bytes) → listed rules bytes limit t ≡ cutListing limit rules bytes t
+    cut-listing h =
+        let n : length (allTries rules bytes) ≡ length (visited rules bytes) = tries-visited rules bytes in
+        listed-showing limit
+        ∙ ap (λ (s : Shown). showing rules bytes t s) (cut-shown limit (capacity t) (allTries rules bytes) (omega arith) roomy)
+
+    pub cut-answer : limit < length (visited rules bytes) → numberOf (listed rules bytes limit t .1 .answer) ≡ 7
+    cut-answer h = rw (cut-listing h)
+
+    -- the tries reported are the positions visited, unless the limit cuts them
+    pub tries-reported : listed rules bytes limit t .1 .tries ≡ min limit (length (visited rules bytes))
+    tries-reported =
+        ⊎-elim
+        (λ (h : length (visited rules bytes) ≤ limit). ap (λ (x : List ℕ × Listing). x .1 .tries) (whole-listing h) ∙ omega arith)
+        (λ (h : limit < length (visited rules bytes)). ap (λ (x : List ℕ × Listing). x .1 .tries) (cut-listing h) ∙ omega arith)
+        (le-or-lt (length (visited rules bytes)) limit)
+
+-- the rows that a limit leaves begin those of the whole listing
+pub rows-begin-whole : (rules bytes : List ℕ) (limit : ℕ) → (rest : List Span) × (allRows rules bytes ≡ rowsBy limit rules bytes ++ rest)
+rows-begin-whole rules bytes limit = (rowsIn (drop limit (allTries rules bytes)), rows-split limit (allTries rules bytes))

@@ -1,0 +1,86 @@
+-- The tries are made at the positions that the nested walk visits, in that order.
+-- By induction over the levels, and over the bytes within a level. Assumes nothing.
+use mathlib.Core.Path.{_≡_, refl, ap, ap₂, sym, _∙_}
+use mathlib.Core.List.{List, [], _∷_, _++_, map}
+use mathlib.Core.Bool.{Bool, true, false, cond}
+use Prim.Native.Nat.{ℕ, zero, suc, _+_, _-_}
+use lib.Dec.{eqb, leb}
+use lib.ListN.{length, take, drop}
+use Rattle.frame.specs.declared.Head.{Head}
+use Rattle.frame.specs.declared.Head.the-variants.{Ended, BadHeader, BadType, Record}
+use Rattle.frame.specs.Frame.{isBox, headOf}
+use Rattle.region.specs.Trace.{Span, span, Visit, none, hit, visitOf, deepest, rowsIn, Inside as Tries, within, onward, records, boxTries, regionTries, allTries}
+use Rattle.region_laws.specs.Positions.{offsetOf, Inside, following, positions, inBox, visited}
+
+abbrev offsets : List Visit → List ℕ
+offsets vs = map offsetOf vs
+
+offsets-append : (us vs : List Visit) → offsets (us ++ vs) ≡ offsets us ++ offsets vs
+offsets-append [] vs = refl
+offsets-append (u ∷ us) vs = ap (λ (l : List ℕ). offsetOf u ∷ l) (offsets-append us vs)
+
+length-offsets : (vs : List Visit) → length (offsets vs) ≡ length vs
+length-offsets [] = refl
+length-offsets (v ∷ vs) = ap suc (length-offsets vs)
+
+module _ (rules : List ℕ) where
+  -- the tries inside a Box are made at its positions
+  abbrev Agree : Tries → Inside → Type 0
+  Agree box at = (held : List ℕ) (offset size row : ℕ) → offsets (box held offset size row) ≡ at held offset size
+
+  module _ (box : Tries) (inside : Inside) (agree : Agree box inside) where
+    within-at : (boxed : Bool) (held : List ℕ) (offset size row : ℕ) → offsets (cond boxed (box held offset size row) []) ≡ cond boxed (inside held offset size) []
+    within-at true held offset size row = agree held offset size row
+    within-at false held offset size row = refl
+
+    onward-at : (level parent offset : ℕ) (bs : List ℕ) (n : ℕ) (head : Head) (rest : ℕ → ℕ → List Visit) (after : ℕ → List ℕ)
+        → ((k m : ℕ) → offsets (rest k m) ≡ after k)
+        → offsets (onward box bs n (visitOf level parent offset (length bs) head) rest) ≡ offset ∷ following inside bs offset head after
+    unfolding onward visitOf following
+    onward-at level parent offset bs n Ended rest after e = refl
+    onward-at level parent offset bs n BadHeader rest after e = refl
+    onward-at level parent offset bs n (BadType t) rest after e = refl
+    onward-at level parent offset bs n (Record word flags declared size) rest after e = by (eqb declared 0)
+      where
+        row : Span
+        row = span level parent offset (length bs) word flags declared size
+
+        tries : List Visit
+        tries = within box (take declared bs) row n
+
+        by : (b : Bool)
+            → offsets (onward box bs n (cond b (none offset (Record word flags declared size)) (hit row)) rest)
+            ≡ offset ∷ cond b [] (cond (isBox word flags) (inside (take declared bs) offset size) [] ++ after (declared - 1))
+        by true = refl
+        by false =
+            ap (λ (l : List ℕ). offset ∷ l)
+            (offsets-append tries (rest (declared - 1) (n + 1 + length (rowsIn tries)))
+            ∙ ap₂ (λ (a b : List ℕ). a ++ b) (within-at (isBox word flags) (take declared bs) offset size n) (e (declared - 1) (n + 1 + length (rowsIn tries))))
+
+    records-at : (levels parent skip : ℕ) (bs : List ℕ) (offset n : ℕ) → offsets (records rules box levels parent skip bs offset n) ≡ positions rules inside skip bs offset
+    unfolding records positions
+    records-at levels parent skip [] offset n = refl
+    records-at levels parent (suc k) (b ∷ bs) offset n = records-at levels parent k bs (offset + 1) n
+    records-at levels parent zero (b ∷ bs) offset n =
+        onward-at (deepest - levels) parent offset (b ∷ bs) n (headOf rules (b ∷ bs))
+        (λ k m. records rules box levels parent k bs (offset + 1) m) (λ k. positions rules inside k bs (offset + 1))
+        (λ k m. records-at levels parent k bs (offset + 1) m)
+
+  box-at : (levels : ℕ) → Agree (boxTries rules levels) (inBox rules levels)
+  unfolding boxTries inBox
+  box-at zero held offset size row = refl
+  box-at (suc l) held offset size row = by (box-at l) (leb size (length held))
+    where
+      by : Agree (boxTries rules l) (inBox rules l) → (b : Bool)
+          → offsets (cond b (records rules (boxTries rules l) l row 0 (drop size held) (offset + size) (row + 1)) [])
+          ≡ cond b (positions rules (inBox rules l) 0 (drop size held) (offset + size)) []
+      by agree true = records-at (boxTries rules l) (inBox rules l) agree l row 0 (drop size held) (offset + size) (row + 1)
+      by agree false = refl
+
+  -- each try is made at the next position that the walk visits
+  pub tried-at-visited : (bytes : List ℕ) → map offsetOf (allTries rules bytes) ≡ visited rules bytes
+  unfolding allTries regionTries visited
+  tried-at-visited bytes = records-at (boxTries rules deepest) (inBox rules deepest) (box-at deepest) deepest _ 0 bytes 0 0
+
+  pub tries-visited : (bytes : List ℕ) → length (allTries rules bytes) ≡ length (visited rules bytes)
+  tries-visited bytes = sym (length-offsets (allTries rules bytes)) ∙ ap length (tried-at-visited bytes)

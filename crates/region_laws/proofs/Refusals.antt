@@ -1,0 +1,103 @@
+-- The answers 3, 4 and 5 come with no row, an untouched table and one try, or none where the region is empty.
+-- By the first try, after which a region without a record stops. Assumes nothing.
+use mathlib.Core.Path.{_≡_, refl, _∙_}
+use mathlib.Core.List.{List, [], _∷_}
+use mathlib.Core.Logic.{⊎-elim}
+use Prim.Native.Nat.{ℕ, zero, suc, _≤_, _<_, min}
+use native.Mathlib.Omega.{arith}
+use native.Mathlib.Nat.{eq-zero-or-pos}
+use lib.ListN.{length}
+use Rattle.frame.specs.Version.{wordOf}
+use Rattle.frame.specs.Frame.{headWith, headOf}
+use Rattle.frame.specs.declared.Head.{Head}
+use Rattle.frame.specs.declared.Head.the-variants.{Ended}
+use Rattle.region.specs.Trace.{Span, Visit, none, hit, visitOf, deepest, top, Inside, onward, records, boxTries, regionTries, allTries}
+use Rattle.region.specs.Listing.{numberOf, answerOf, shown, capacity, flat, laid, worked, listed}
+use Rattle.region.specs.declared.Cut.{Cut}
+use Rattle.region.specs.declared.Cut.the-variants.{Going, Full, Spent}
+use Rattle.region.specs.declared.Listing.{Listing}
+use Rattle.region.proofs.Runs.{spent-going, full-going}
+use Rattle.region_laws.proofs.Shown.{listed-cases}
+
+-- a listing of no row
+pub record Alone (bytes t : List ℕ) (x : List ℕ × Listing) : Type 0 where
+  pub table : x .0 ≡ t
+  pub rows : x .1 .rows ≡ 0
+  pub tries : x .1 .tries ≡ min 1 (length bytes)
+
+-- such an answer is that of a walk that found no row and was not cut off
+uncut : (cut : Cut) (n : ℕ) (head : Head) → 3 ≤ numberOf (answerOf cut n head) → numberOf (answerOf cut n head) ≤ 5 → (cut ≡ Going) × (n ≡ 0)
+uncut Full n head h g = absurd (omega arith)
+uncut Spent n head h g = absurd (omega arith)
+uncut Going zero head h g = (refl, refl)
+uncut Going (suc n) head h g = absurd (omega arith)
+
+-- a walk that found no row and was not cut off made one try, if any
+onward-alone : (limit room : ℕ) (box : Inside) (bs : List ℕ) (n : ℕ) (v : Visit) (rest : ℕ → ℕ → List Visit)
+    → shown limit room (onward box bs n v rest) .cut ≡ Going → length (shown limit room (onward box bs n v rest) .rows) ≡ 0
+    → shown limit room (onward box bs n v rest) .tries ≡ 1
+unfolding shown onward
+onward-alone zero room box bs n (none o head) rest e f = absurd (spent-going e)
+onward-alone zero room box bs n (hit r) rest e f = absurd (spent-going e)
+onward-alone (suc limit) room box bs n (none o head) rest e f = refl
+onward-alone (suc limit) zero box bs n (hit r) rest e f = absurd (full-going e)
+onward-alone (suc limit) (suc room) box bs n (hit r) rest e f = absurd (omega arith)
+
+tries-alone : (rules : List ℕ) (limit room : ℕ) (bytes : List ℕ)
+    → shown limit room (allTries rules bytes) .cut ≡ Going → length (shown limit room (allTries rules bytes) .rows) ≡ 0
+    → shown limit room (allTries rules bytes) .tries ≡ min 1 (length bytes)
+unfolding allTries regionTries records shown
+tries-alone rules limit room [] e f = refl
+tries-alone rules limit room (b ∷ bs) e f =
+    onward-alone limit room (boxTries rules deepest) (b ∷ bs) 0 (visitOf 0 top 0 (length (b ∷ bs)) (headOf rules (b ∷ bs))) (λ skip m. records rules (boxTries rules deepest) deepest top skip bs 1 m) e f
+    ∙ omega arith
+
+laid-none : (rs : List Span) (t : List ℕ) → length rs ≡ 0 → laid rs t ≡ t
+unfolding laid flat
+laid-none [] t e = refl
+laid-none (r ∷ rs) t e = absurd (omega arith)
+
+-- no bytes are ended, which answers 5
+no-bytes : (rules bytes : List ℕ) → length bytes ≡ 0 → headOf rules bytes ≡ Ended
+unfolding headOf headWith wordOf
+no-bytes rules [] e = refl
+no-bytes rules (b ∷ bs) e = absurd (omega arith)
+
+ended-five : (cut : Cut) (n : ℕ) → 3 ≤ numberOf (answerOf cut n Ended) → numberOf (answerOf cut n Ended) ≤ 5 → numberOf (answerOf cut n Ended) ≡ 5
+ended-five Full n h g = absurd (omega arith)
+ended-five Spent n h g = absurd (omega arith)
+ended-five Going zero h g = refl
+ended-five Going (suc n) h g = absurd (omega arith)
+
+module _ (rules bytes : List ℕ) (limit : ℕ) (t : List ℕ) where
+  abbrev number : List ℕ × Listing → ℕ
+  number x = numberOf (x .1 .answer)
+
+  -- the answers 3, 4 and 5
+  pub refused-alone : 3 ≤ number (listed rules bytes limit t) → number (listed rules bytes limit t) ≤ 5 → Alone bytes t (listed rules bytes limit t)
+  unfolding worked
+  refused-alone =
+      listed-cases (λ (x : List ℕ × Listing). 3 ≤ number x → number x ≤ 5 → Alone bytes t x) rules bytes limit t
+      (λ h g. absurd (omega arith)) (λ h g. absurd (omega arith))
+      (λ h g.
+      let s = shown limit (capacity t) (allTries rules bytes) in
+      let q = uncut (s .cut) (length (s .rows)) (headOf rules bytes) h g in
+      record { table = laid-none (s .rows) t (q .1); rows = q .1; tries = tries-alone rules limit (capacity t) bytes (q .0) (q .1) })
+
+  -- an empty region answers 5
+  empty-answer : length bytes ≡ 0 → 3 ≤ number (listed rules bytes limit t) → number (listed rules bytes limit t) ≤ 5 → number (listed rules bytes limit t) ≡ 5
+  unfolding worked
+  empty-answer e =
+      listed-cases (λ (x : List ℕ × Listing). 3 ≤ number x → number x ≤ 5 → number x ≡ 5) rules bytes limit t
+      (λ h g. absurd (omega arith)) (λ h g. absurd (omega arith))
+      (rw (no-bytes rules bytes e)
+      (ended-five (shown limit (capacity t) (allTries rules bytes) .cut) (length (shown limit (capacity t) (allTries rules bytes) .rows))))
+
+  -- 3 and 4 come with exactly one try
+  pub bad-first-tries : 3 ≤ number (listed rules bytes limit t) → number (listed rules bytes limit t) ≤ 4 → listed rules bytes limit t .1 .tries ≡ 1
+  bad-first-tries h g =
+      let a : listed rules bytes limit t .1 .tries ≡ min 1 (length bytes) = refused-alone h (omega arith) .tries in
+      ⊎-elim
+      (λ (e : length bytes ≡ 0). absurd (let k : number (listed rules bytes limit t) ≡ 5 = empty-answer e h (omega arith) in omega arith))
+      (λ (p : 0 < length bytes). omega arith)
+      (eq-zero-or-pos (length bytes))

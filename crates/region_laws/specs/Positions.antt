@@ -1,0 +1,43 @@
+-- The positions at which the nested walk tries a header, without rows, limit or table (document 01, 'The nested listing').
+use Prim.Native.Nat.{ℕ, zero, suc, _+_, _-_}
+use mathlib.Core.List.{List, [], _∷_, _++_}
+use mathlib.Core.Bool.{cond}
+use lib.Dec.{eqb, leb}
+use lib.ListN.{length, take, drop}
+use Rattle.frame.specs.declared.Head.{Head}
+use Rattle.frame.specs.declared.Head.the-variants.{Ended, BadHeader, BadType, Record}
+use Rattle.frame.specs.Frame.{isBox, headOf}
+use Rattle.region.specs.Trace.{Visit, none, hit, deepest}
+
+-- where a try is made
+abbrev pub offsetOf : Visit → ℕ
+offsetOf (none offset head) = offset
+offsetOf (hit r) = r .offset
+
+-- the positions inside a Box: from its held bytes, its own position and its header's size
+abbrev pub Inside : Type 0
+Inside = List ℕ → ℕ → ℕ → List ℕ
+
+-- the positions after a header's: none where the region stops; else those inside its record, and those of the rest
+unfoldable pub following : Inside → List ℕ → ℕ → Head → (ℕ → List ℕ) → List ℕ
+following box bytes at Ended rest = []
+following box bytes at BadHeader rest = []
+following box bytes at (BadType t) rest = []
+following box bytes at (Record word flags declared size) rest =
+    cond (eqb declared 0) [] (cond (isBox word flags) (box (take declared bytes) at size) [] ++ rest (declared - 1))
+
+module _ (rules : List ℕ) where
+  -- the positions in a region after `skip` of its bytes, of which the others start at `at`
+  unfoldable pub positions : Inside → ℕ → List ℕ → ℕ → List ℕ
+  positions box skip [] at = []
+  positions box (suc k) (b ∷ bs) at = positions box k bs (at + 1)
+  positions box zero (b ∷ bs) at = at ∷ following box (b ∷ bs) at (headOf rules (b ∷ bs)) (λ skip. positions box skip bs (at + 1))
+
+  -- the positions inside a Box whose region has so many levels left
+  unfoldable pub inBox : ℕ → Inside
+  inBox zero held at size = []
+  inBox (suc levels) held at size = cond (leb size (length held)) (positions (inBox levels) 0 (drop size held) (at + size)) []
+
+-- the positions in the whole input
+unfoldable pub visited : List ℕ → List ℕ → List ℕ
+visited rules bytes = positions rules (inBox rules deepest) 0 bytes 0
