@@ -1,3 +1,1 @@
 pub mod Fitting
-pub mod Writing
-pub mod Tables

@@ -10,12 +10,11 @@ use Rattle.frame.specs.Frame.{layoutOf}
 use Rattle.frame.specs.declared.version.Version.{Version}
 use Rattle.frame.specs.declared.Layout.{Layout}
 use Rattle.frame.specs.declared.Layout.the-variants.{Zero, One, Two, Three, Four, Five, Six, LegacyServer, LegacyGpu, Bad}
-use Rattle.header.specs.Layouts.{serverDie}
 use Rattle.header.specs.Access.{layoutIn, headerSize}
 use Rattle.header.specs.declared.Header.{Header}
 use Rattle.header.specs.declared.HeaderType.{HeaderType}
-use Rattle.header.specs.declared.HeaderType.the-variants.{Type0, Type1, Type2, Type3, Type4, Type5, Type6, Type0LegacyServer, Type0LegacyGpu}
-use Rattle.encode.specs.Values.{headerBytes}
+use Rattle.header_put.specs.Values.{headerBytes}
+use Rattle.header_put.specs.Fit.{fieldsFit}
 use Rattle.encode.specs.declared.Answer.{Answer}
 use Rattle.encode.specs.declared.Answer.the-variants.{Done, BadRules, BadField, OutputShort}
 use Rattle.encode.specs.declared.Encoded.{Encoded}
@@ -43,22 +42,6 @@ layoutNumber Six = 6
 layoutNumber LegacyServer = 7
 layoutNumber LegacyGpu = 8
 layoutNumber Bad = 9
-
--- a status that shares its word with complete
-abbrev pub statusFits : ℕ → Bool
-statusFits s = ltb s 2147483648
-
--- the fields of a layout, beside a revision and an extended size
-abbrev pub fieldsFit : HeaderType → ℕ → ℕ → Bool
-fieldsFit Type0 rev ext = true
-fieldsFit Type1 rev ext = true
-fieldsFit (Type2 t a r) rev ext = true
-fieldsFit (Type3 t a r s c) rev ext = statusFits s
-fieldsFit (Type4 t a r w m) rev ext = true
-fieldsFit (Type5 t a r s c e) rev ext = statusFits s
-fieldsFit (Type6 t a r d k n c) rev ext = leb n 127
-fieldsFit (Type0LegacyServer t a r d k s c) rev ext = statusFits s && (eqb ext 0 && eqb d (serverDie rev))
-fieldsFit (Type0LegacyGpu t a r s c) rev ext = statusFits s && eqb ext 0
 
 -- the layout is the one that flags and type choose
 abbrev pub layoutFits : List ℕ → ℕ → HeaderType → Bool

@@ -1,10 +1,8 @@
 // The header encoder, which the Rust does not have: the inverse of decode.
 ghost use mathlib.Core.Path.{_≡_};
-ghost use Rattle.encode.specs.Encode.{versionFits, readable, layoutNumber, statusFits, fieldsFit, encodable, answered, encodedOf};
+ghost use Rattle.header_put.specs.Fit.{fieldsFit};
+ghost use Rattle.encode.specs.Encode.{versionFits, layoutNumber, encodable, answered, encodedOf};
 ghost use Rattle.header.specs.Access.{layoutIn};
-
-mod put;
-
 use frame::Layout;
 use frame::version::END_MARK;
 use frame::version::ENDED;
@@ -12,7 +10,6 @@ use frame::version::Version;
 use header::Header;
 use header::HeaderType;
 use header::fields::server_die;
-use put::put_header;
 
 // A status that shares its word with complete is below this.
 const STATUS_END: u32 = 2147483648;
@@ -158,7 +155,7 @@ pub fn encode(header: Header, rules: &[u32], out: &mut [u8]) -> Encoded
     if out.len() < size {
         return refused(Answer::OutputShort);
     }
-    put_header(out, header);
+    header_put::put_header(out, header);
     Encoded {
         answer: Answer::Done,
         length: size,
