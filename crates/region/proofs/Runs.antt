@@ -58,6 +58,10 @@ module _ (limit room : ℕ) where
   unfolding run
   run-none m = refl
 
+  pub run-empty : (vs : List Visit) (m : Walk) → vs ≡ [] → m ≡ run limit room vs m
+  unfolding run
+  run-empty vs m e = rw e
+
   pub run-cons : (v : Visit) (vs : List Visit) (m : Walk) → run limit room (v ∷ vs) m ≡ run limit room vs (step limit room v m)
   unfolding run
   run-cons v vs m = refl

@@ -7,7 +7,7 @@ use mathlib.Core.Logic.{_⊎_, ⊎-elim}
 use Prim.Native.Nat.{min, ℕ, _+_, _-_, _≤_, _<_, _^_}
 use native.Mathlib.Omega.{arith}
 use native.Mathlib.Nat.{add-zero}
-use types.Run.{OneOf}
+use types.Run.{OneOf, miss}
 use denote.Enum.Declared.{tagOf}
 use lib.Dec.{eqb, ltb}
 use lib.ListN.{length, take, drop, length-take, length-drop}
@@ -98,8 +98,9 @@ module _ (p : Place) where
   unfolding regionTries
   rest-start t rows tries whole = rw add-zero
 
-  pub rest-same : (at : ℕ) {t t₁ : List ℕ} {rows rows₁ tries tries₁ : ℕ} {whole whole₁ : Bool} → t₁ ≡ t → rows₁ ≡ rows → tries₁ ≡ tries → whole₁ ≡ whole
-      → rest at t rows tries whole ≡ rest at t₁ rows₁ tries₁ whole₁
+  -- the code's variables are those of the place
+  pub rest-same : (at : ℕ) {t t₁ : List ℕ} {rows rows₁ tries tries₁ : ℕ} {whole whole₁ : Bool}
+      → t₁ ≡ t → rows₁ ≡ rows → tries₁ ≡ tries → whole₁ ≡ whole → rest at t rows tries whole ≡ rest at t₁ rows₁ tries₁ whole₁
   rest-same at e f g h = rw (← e, ← f, ← g, ← h)
 
   module _ (at : ℕ) (t : List ℕ) (rows tries : ℕ) (whole : Bool) where
@@ -268,7 +269,8 @@ module _ (p : Place) (at word flags : ℕ) where
       let h : headWith part word flags ≡ headOf (p .rules) part = head-known (p .rules) part word flags is-word is-flags in
       record { within = within; due = due; gave = rw (h, tail-part) at gave; bounded = bounded }
 
+-- a cut that is not the first is none that goes on
 pub tag-cut : (cut : Cut) → OneOf (1 ∷ 2 ∷ []) (tagOf cut-type cut) → cut ≡ Going → ⊥
-tag-cut Going o e = ⊎-elim (λ e. omega arith) (λ e. omega arith) o
+tag-cut Going o e = miss (1 ∷ 2 ∷ []) 0 tt o
 tag-cut Full o e = full-going e
 tag-cut Spent o e = spent-going e

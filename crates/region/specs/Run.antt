@@ -12,10 +12,11 @@ use Rattle.region.specs.declared.State.{State}
 use Rattle.region.specs.declared.Found.{Found}
 use Rattle.region.specs.declared.Found.the-variants.{Nothing, NoRoom, Row}
 
--- the table and the counts
+-- a walk so far: the table and the counts
 abbrev pub Walk : Type 0
 Walk = List ℕ × State
 
+-- rows, tries, whether no row holds less than it declares, and what cut the walk off
 abbrev pub state : ℕ → ℕ → Bool → Cut → State
 state rows tries whole cut = record { rows = rows; tries = tries; whole = whole; cut = cut }
 
@@ -44,6 +45,7 @@ ifGoing Going next m = next
 ifGoing Full next m = m
 ifGoing Spent next m = m
 
+-- one try
 unfoldable pub step : ℕ → ℕ → Visit → Walk → Walk
 step limit room v m = ifGoing (m .1 .cut) (due limit room v (m .0) (m .1 .rows) (m .1 .tries) (m .1 .whole)) m
 

@@ -10,7 +10,7 @@ use Rattle.frame.specs.Frame.{isBox, headOf}
 
 -- ---- one try
 
--- a record's row
+-- a record's row; `parent` is a row's number, `size` the header's, `word` the version word
 pub record Span : Type 0 where
   pub level : ℕ
   pub parent : ℕ
@@ -38,7 +38,7 @@ deepest = 4
 abbrev pub top : ℕ
 top = 4294967295
 
--- the row of a record in a region that has so many bytes left from its start on
+-- the row of a record from whose start on its region has so many bytes left
 abbrev pub span : ℕ → ℕ → ℕ → ℕ → ℕ → ℕ → ℕ → ℕ → Span
 span level parent offset left word flags declared size =
     record { level = level; parent = parent; offset = offset; held = min declared left; declared = declared; size = size; word = word; flags = flags }

@@ -9,7 +9,7 @@ ghost use lib.Seq.{sets};
 ghost use Rattle.frame.specs.Frame.{headWith, headOf};
 ghost use Rattle.region.specs.Trace.{visitOf, boxTries, regionTries};
 ghost use Rattle.region.specs.Run.{state, found, run, Bounded};
-ghost use Rattle.region.specs.Listing.{numberOf, answerOf, refusal, listed};
+ghost use Rattle.region.specs.Listing.{numberOf, answerFirst, answerOf, refusal, listed};
 use frame::LACKING;
 use frame::version::ENDED;
 use frame::version::word_of;
@@ -20,7 +20,7 @@ const MOST_BYTES: usize = 1048576;
 // How deep Boxes are opened.
 const DEEPEST: u32 = 4;
 
-// The parent row at the top, and so one more than the rows that are ever used.
+// The parent row at the top. No row has this number: at most TOP - 1 rows are used.
 const TOP: u32 = 4294967295;
 
 const NUMBERS_IN_ROW: usize = 8;
@@ -32,7 +32,7 @@ pub enum Cut {
     Spent,
 }
 
-// The rows written, the tries made, and whether no row holds less than it declares.
+// How far a walk has come: the rows written, the tries made, and whether no row holds less than it declares.
 pub struct State {
     pub rows: u32,
     pub tries: u64,
@@ -104,7 +104,7 @@ fn put_row(
     spans[at + 7] = flags;
 }
 
-// One try, where the header's word and flags are known: the header is judged first, then there is room for its row or not.
+// One try, where the header's word and flags are known: the header is judged first, then the room for its row.
 fn try_at(
     bytes: &[u8],
     word: u32,
@@ -256,7 +256,7 @@ fn region_walk(
     counts(rows, tries, whole, Cut::Going)
 }
 
-// What stands inside a Box, where its region has a level left and the header is held.
+// What stands inside a Box whose row is `row`. It is opened where a level is left and its header is held.
 fn box_walk(
     held: &[u8],
     rules: &[u32],
@@ -297,7 +297,7 @@ fn box_walk(
 
 // The answer where the first header is no record.
 fn answer_first(region: &[u8], rules: &[u32]) -> Answer
-    ensures { λ r. ⌜ r ≡ answerOf Cut.Going 0 (headOf (now (rules .entry)) (now (region .entry))) ⌝ }
+    ensures { λ r. ⌜ r ≡ answerFirst (headOf (now (rules .entry)) (now (region .entry))) ⌝ }
 {
     let head = frame::frame(region, rules);
     match head {
@@ -324,6 +324,7 @@ fn answer_of(region: &[u8], rules: &[u32], cut: Cut, rows: u32) -> Answer
     }
 }
 
+// Whether the answer is 0.
 fn is_done(answer: Answer) -> bool
     ensures { λ r. ⌜ r ≡ eqb (numberOf answer) 0 ⌝ }
 {
@@ -333,6 +334,7 @@ fn is_done(answer: Answer) -> bool
     }
 }
 
+// A refusal before any work.
 fn refused(answer: Answer) -> Listing
     ensures { λ r. ⌜ r ≡ refusal answer ⌝ }
 {
@@ -344,7 +346,7 @@ fn refused(answer: Answer) -> Listing
     }
 }
 
-// The rows that a table of so many numbers has, below TOP.
+// The rows that a table of so many numbers has, TOP - 1 at most.
 fn room_of(numbers: usize) -> u32
     ensures { λ r. ⌜ r ≡ min (numbers / 8) 4294967294 ⌝ }
 {

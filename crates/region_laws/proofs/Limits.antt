@@ -3,7 +3,7 @@
 use mathlib.Core.Path.{_≡_, ap, _∙_}
 use mathlib.Core.List.{List, _++_}
 use mathlib.Core.Logic.{⊎-elim}
-use Prim.Native.Nat.{ℕ, _≤_, _<_, min}
+use Prim.Native.Nat.{ℕ, _*_, _≤_, _<_, min}
 use native.Mathlib.Omega.{arith}
 use lib.ListN.{length, take, drop}
 use Rattle.region.specs.Trace.{Span, rowsIn, allTries}
@@ -13,8 +13,9 @@ use Rattle.region.proofs.Orders.{le-or-lt}
 use Rattle.region.proofs.Shows.{listed-worked}
 use Rattle.region_laws.specs.Positions.{visited}
 use Rattle.region_laws.specs.Whole.{Accepted, allRows, rowsBy, Roomy, showing, wholeListing, cutListing}
-use Rattle.region_laws.proofs.Shown.{tries-le-limit, rows-shown, all-shown, cut-shown, rows-split}
+use Rattle.region_laws.proofs.Shown.{tries-le-limit, rows-shown, all-shown, cut-shown, rows-le, rows-split}
 use Rattle.region_laws.proofs.Positions.{tries-visited}
+use Rattle.region_laws.proofs.Bounds.{visited-five-times}
 
 module _ (rules bytes : List ℕ) (t : List ℕ) (ok : Accepted rules bytes) where
   listed-showing : (limit : ℕ) → listed rules bytes limit t ≡ showing rules bytes t (shown limit (capacity t) (allTries rules bytes))
@@ -65,6 +66,15 @@ module _ (rules bytes : List ℕ) (t : List ℕ) (ok : Accepted rules bytes) whe
         (λ (h : length (visited rules bytes) ≤ limit). ap (λ (x : List ℕ × Listing). x .1 .tries) (whole-listing h) ∙ omega arith)
         (λ (h : limit < length (visited rules bytes)). ap (λ (x : List ℕ × Listing). x .1 .tries) (cut-listing h) ∙ omega arith)
         (le-or-lt (length (visited rules bytes)) limit)
+
+-- five tries and five rows for each byte are always enough
+pub five-times-enough : (rules bytes t : List ℕ) → Accepted rules bytes → (limit : ℕ) → 5 * length bytes ≤ limit → 5 * length bytes ≤ capacity t
+    → listed rules bytes limit t ≡ wholeListing rules bytes t
+five-times-enough rules bytes t ok limit h g =
+    let n : length (allTries rules bytes) ≡ length (visited rules bytes) = tries-visited rules bytes in
+    let m : length (visited rules bytes) ≤ 5 * length bytes = visited-five-times rules bytes in
+    let r : length (allRows rules bytes) ≤ length (allTries rules bytes) = rows-le (allTries rules bytes) in
+    whole-listing rules bytes t ok (omega arith) limit (omega arith)
 
 -- the rows that a limit leaves begin those of the whole listing
 pub rows-begin-whole : (rules bytes : List ℕ) (limit : ℕ) → (rest : List Span) × (allRows rules bytes ≡ rowsBy limit rules bytes ++ rest)

@@ -63,6 +63,13 @@ cut-shown (suc limit) room (none o head ∷ vs) h g = ap (λ (s : Shown). tried 
 cut-shown (suc limit) zero (hit r ∷ vs) h g = absurd (omega arith)
 cut-shown (suc limit) (suc room) (hit r ∷ vs) h g = ap (λ (s : Shown). triedRow r s) (cut-shown limit room vs (omega arith) (omega arith))
 
+-- a try finds one row at most
+pub rows-le : (vs : List Visit) → length (rowsIn vs) ≤ length vs
+unfolding rowsIn
+rows-le [] = omega arith
+rows-le (none o head ∷ vs) = let h : length (rowsIn vs) ≤ length vs = rows-le vs in omega arith
+rows-le (hit r ∷ vs) = let h : length (rowsIn vs) ≤ length vs = rows-le vs in omega arith
+
 -- the rows of the first tries begin those of all
 pub rows-split : (limit : ℕ) (vs : List Visit) → rowsIn vs ≡ rowsIn (take limit vs) ++ rowsIn (drop limit vs)
 unfolding rowsIn

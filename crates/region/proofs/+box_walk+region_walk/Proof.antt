@@ -1,6 +1,5 @@
--- The region walk and the Box walk run the tries of a region and those inside a Box.
--- The levels left fall from the one to the other; the loop's invariant: what is left of the region, run from here, ends as the whole does.
--- Assumes nothing.
+-- The region walk and the Box walk run the tries of a region and those inside a Box, with the levels left as the falling number.
+-- The loop's invariant: what is left of the region, run from here, ends as the whole does. Assumes nothing.
 use Prim.Native.Nat.{ℕ, _+_, _-_, _*_, _<_}
 use mathlib.Core.Path.{_≡_, refl, sym, ap, _∙_}
 use mathlib.Core.List.{List}
@@ -16,7 +15,7 @@ use Rattle.region.specs.Trace.{Visit, regionTries}
 use Rattle.region.specs.Run.{Walk, state, run}
 use Rattle.region.specs.declared.Cut.the-variants.{Going}
 use Rattle.region.proofs.Tries.{box-deep, box-short, box-open}
-use Rattle.region.proofs.Runs.{run-none}
+use Rattle.region.proofs.Runs.{run-empty}
 use Rattle.region.proofs.Turn.{tail-part, held-fits, Place, rest, rest-start, rest-same, rest-end, rest-spent, Tried, tried-at, remembered, stop-turn, full-turn, row-free, row-bounds, row-held, plain-turn, box-turn, box-cut, tag-cut}
 use borrow.Fn.Kinds.{In}
 use borrow.Fn.PlainCycle.{Measures, is, falls, and}
@@ -76,8 +75,7 @@ box-walk-counts-requires t c κs = search needs
 box-walk-returns : (t : ℕ) → box-walk-lts.Need-returns (BoxCalls t) (box-walk-at t) box-walk.Post
 box-walk-returns t c =
     let a = c .before .before .before .before .before .args in
-    rw (c .counts .ensures)
-    (sym (ap (λ (vs : List Visit). run (a .limit) (a .room) vs (now (a .spans), state (a .row + 1) (a .tries) (a .whole) Going)) (box-deep (now (a .rules)) (a .levels) (now (a .held)) (a .base) (a .size) (a .row) (omega arith)) ∙ run-none (a .limit) (a .room) (now (a .spans), state (a .row + 1) (a .tries) (a .whole) Going)))
+    rw (c .counts .ensures) (run-empty (a .limit) (a .room) _ (now (a .spans), state (a .row + 1) (a .tries) (a .whole) Going) (box-deep (now (a .rules)) (a .levels) (now (a .held)) (a .base) (a .size) (a .row) (omega arith)))
 
 box-walk-counts-requires-2 : (t : ℕ) → box-walk-lts.Need-counts-requires-2 (BoxCalls t) (box-walk-at t) box-walk.Post
 box-walk-counts-requires-2 t c κs = search needs
@@ -85,8 +83,7 @@ box-walk-counts-requires-2 t c κs = search needs
 box-walk-returns-2 : (t : ℕ) → box-walk-lts.Need-returns-2 (BoxCalls t) (box-walk-at t) box-walk.Post
 box-walk-returns-2 t c =
     let a = c .before .before .before .before .before .before .args in
-    rw (c .counts2 .ensures)
-    (sym (ap (λ (vs : List Visit). run (a .limit) (a .room) vs (now (a .spans), state (a .row + 1) (a .tries) (a .whole) Going)) (box-short (now (a .rules)) (a .levels) (now (a .held)) (a .base) (a .size) (a .row) (omega arith)) ∙ run-none (a .limit) (a .room) (now (a .spans), state (a .row + 1) (a .tries) (a .whole) Going)))
+    rw (c .counts2 .ensures) (run-empty (a .limit) (a .room) _ (now (a .spans), state (a .row + 1) (a .tries) (a .whole) Going) (box-short (now (a .rules)) (a .levels) (now (a .held)) (a .base) (a .size) (a .row) (omega arith)))
 
 box-walk-sub-region-walk : (t : ℕ) → box-walk-lts.Need-sub-region-walk (BoxCalls t) (box-walk-at t) box-walk.Post
 box-walk-sub-region-walk t c = search needs
@@ -144,23 +141,33 @@ abbrev place : (t : ℕ) → region-walk-lts.Start (RegionCalls t) (region-walk-
 place t s = placed (now (s .args .bytes)) (now (s .args .rules)) (s .args .base) (s .args .levels) (s .args .parent) (s .args .limit) (s .args .room)
 
 module _ (t : ℕ) (c : region-walk-lts.After-try-at (RegionCalls t) (region-walk-at t) region-walk.Post region-walk-Inv-loop region-walk-μ-loop) where
+  -- the places on the way to the try
+  abbrev S : region-walk-lts.Start (RegionCalls t) (region-walk-at t) region-walk.Post region-walk-Inv-loop region-walk-μ-loop
+  S = c .before .before .before .before .before .before .before .before .before .before .before .before
+
   abbrev L : region-walk-lts.At-loop (RegionCalls t) (region-walk-at t) region-walk.Post region-walk-Inv-loop region-walk-μ-loop
   L = c .before .before .before .before .before .before .before .before
 
-  -- the word's flags
-  known : (c .before .before .before .if2 .last ≡ c .before .before .before .before .word-of .result) × ((c .before .before .before .before .word-of .result ≡ ended → ⊥) → c .before .before .before .if2 .known ≡ flagsOf (now (c .before .before .before .before .before .before .before .before .before .before .before .before .args .rules)) (c .before .before .before .before .word-of .result))
-  known =
-      remembered (now (c .before .before .before .before .before .before .before .before .before .before .before .before .args .rules)) (c .before .before .before .before .word-of .result) (L .loop .last) (L .loop .known) (c .before .before .before .if2 .last) (c .before .before .before .if2 .known) (L .loop .inv .flags)
-      (⊎-elim (λ q. inl (q .2, q .3 ∙ q .1 .ensures)) (λ q. inr (q .0 .left, q .1, q .2)) (c .before .before .before .if2 .came))
+  abbrev W : region-walk-lts.After-word-of (RegionCalls t) (region-walk-at t) region-walk.Post region-walk-Inv-loop region-walk-μ-loop
+  W = c .before .before .before .before
 
-  kept : (c .before .before .before .if2 .last ≡ ended → ⊥) → c .before .before .before .if2 .known ≡ flagsOf (now (c .before .before .before .before .before .before .before .before .before .before .before .before .args .rules)) (c .before .before .before .if2 .last)
-  kept n = known .1 (λ e. n (known .0 ∙ e)) ∙ ap (flagsOf (now (c .before .before .before .before .before .before .before .before .before .before .before .before .args .rules))) (sym (known .0))
+  abbrev J : region-walk-lts.Joined2 (RegionCalls t) (region-walk-at t) region-walk.Post region-walk-Inv-loop region-walk-μ-loop
+  J = c .before .before .before
+
+  -- the word's flags are known
+  known : (J .if2 .last ≡ W .word-of .result) × ((W .word-of .result ≡ ended → ⊥) → J .if2 .known ≡ flagsOf (now (S .args .rules)) (W .word-of .result))
+  known =
+      remembered (now (S .args .rules)) (W .word-of .result) (L .loop .last) (L .loop .known) (J .if2 .last) (J .if2 .known) (L .loop .inv .flags)
+      (⊎-elim (λ q. inl (q .2, q .3 ∙ q .1 .ensures)) (λ q. inr (q .0 .left, q .1, q .2)) (J .if2 .came))
+
+  kept : (J .if2 .last ≡ ended → ⊥) → J .if2 .known ≡ flagsOf (now (S .args .rules)) (J .if2 .last)
+  kept n = known .1 (λ e. n (known .0 ∙ e)) ∙ ap (flagsOf (now (S .args .rules))) (sym (known .0))
 
   -- the try of this turn
-  turn : Tried (place t (c .before .before .before .before .before .before .before .before .before .before .before .before)) (L .loop .at) (L .loop .spans) (c .try-at .last .1 .1 .1 .1 .1 .1 .1 .1 .0) (L .loop .rows) (L .loop .tries) (c .try-at .result)
+  turn : Tried (place t S) (L .loop .at) (L .loop .spans) (c .try-at .last .1 .1 .1 .1 .1 .1 .1 .1 .0) (L .loop .rows) (L .loop .tries) (c .try-at .result)
   turn =
-      tried-at (place t (c .before .before .before .before .before .before .before .before .before .before .before .before)) (L .loop .at) (c .before .before .before .before .word-of .result) (c .before .before .before .if2 .known)
-      (c .before .before .before .before .before .before .before .loop-test .taken) (omega arith) (c .before .before .before .before .word-of .ensures) (known .1) (c .try-at .ensures .0) (c .try-at .ensures .1)
+      tried-at (place t S) (L .loop .at) (W .word-of .result) (J .if2 .known)
+      (c .before .before .before .before .before .before .before .loop-test .taken) (omega arith) (W .word-of .ensures) (known .1) (c .try-at .ensures .0) (c .try-at .ensures .1)
 
 region-walk-loop-holds : (t : ℕ) → region-walk-lts.Need-loop-holds (RegionCalls t) (region-walk-at t) region-walk.Post region-walk-Inv-loop region-walk-μ-loop
 region-walk-loop-holds t c =
@@ -311,18 +318,19 @@ region-walk-loop-less t c =
 region-walk-loop-again : (t : ℕ) → region-walk-lts.Need-loop-again (RegionCalls t) (region-walk-at t) region-walk.Post region-walk-Inv-loop region-walk-μ-loop
 region-walk-loop-again t c =
     let l = c .before .before .before .before .before .before .before .before .before .before .before .before .before .before .loop in
+    let d = c .before .before .tried .given .0 .1 .0 in
     let y = c .before .before .before .before .before .before .try-at in
     let g = kept t (c .before .before .before .before .before .before) in
     ⊎-elim
     (λ q. record {
       flags = g;
       same = ap length (q .11) ∙ (q .3 .kept .1 .1 .1 .1 .1 .1 .1 .1 .1 .1 .0 ∙ (y .kept .1 .1 .1 .1 .1 .1 .1 .1 .0 ∙ l .inv .same));
-      ends = l .inv .ends ∙ (box-turn (turn t (c .before .before .before .before .before .before)) (l .whole) (c .before .before .tried .given .1) (q .0 .taken) (q .3 .ensures) (q .7 .given .1) ∙ rest-same (place t (c .before .before .before .before .before .before .before .before .before .before .before .before .before .before .before .before .before .before)) (l .at + c .before .before .tried .given .0 .1 .0) (q .11) (omega (arith, q .8)) (omega (arith, q .9)) (q .10));
+      ends = l .inv .ends ∙ (box-turn (turn t (c .before .before .before .before .before .before)) (l .whole) (c .before .before .tried .given .1) (q .0 .taken) (q .3 .ensures) (q .7 .given .1) ∙ rest-same (place t (c .before .before .before .before .before .before .before .before .before .before .before .before .before .before .before .before .before .before)) (l .at + d) (q .11) (omega (arith, q .8)) (omega (arith, q .9)) (q .10));
     })
     (λ q. record {
       flags = g;
       same = ap length (q .4) ∙ (y .kept .1 .1 .1 .1 .1 .1 .1 .1 .0 ∙ l .inv .same);
-      ends = l .inv .ends ∙ (plain-turn (turn t (c .before .before .before .before .before .before)) (l .whole) (c .before .before .tried .given .1) (q .0 .left) ∙ rest-same (place t (c .before .before .before .before .before .before .before .before .before .before .before .before .before .before .before .before .before .before)) (l .at + c .before .before .tried .given .0 .1 .0) (q .4) (omega (arith, q .1)) (omega (arith, q .2)) (q .3));
+      ends = l .inv .ends ∙ (plain-turn (turn t (c .before .before .before .before .before .before)) (l .whole) (c .before .before .tried .given .1) (q .0 .left) ∙ rest-same (place t (c .before .before .before .before .before .before .before .before .before .before .before .before .before .before .before .before .before .before)) (l .at + d) (q .4) (omega (arith, q .1)) (omega (arith, q .2)) (q .3));
     })
     (c .if3 .came)
 
