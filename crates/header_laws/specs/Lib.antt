@@ -1,0 +1,3 @@
+pub mod Typed
+pub mod Rounds
+pub mod Agree

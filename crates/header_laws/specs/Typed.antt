@@ -1,0 +1,51 @@
+-- What the Rust types say of a header: here numbers have no bound of their own.
+use mathlib.Core.Path.{_≡_}
+use mathlib.Core.List.{List}
+use Prim.Native.Nat.{ℕ, _^_, _<_}
+use lib.ListN.{length, getD}
+use Rattle.header.specs.declared.Header.{Header}
+use Rattle.header.specs.declared.HeaderType.{HeaderType}
+use Rattle.header.specs.declared.HeaderType.the-variants.{Type0, Type1, Type2, Type3, Type4, Type5, Type6, Type0LegacyServer, Type0LegacyGpu}
+
+-- ---- the unsigned types
+
+abbrev pub U8 : ℕ → Type 0
+U8 x = x < 2 ^ 8
+
+abbrev pub U16 : ℕ → Type 0
+U16 x = x < 2 ^ 16
+
+abbrev pub U32 : ℕ → Type 0
+U32 x = x < 2 ^ 32
+
+abbrev pub U64 : ℕ → Type 0
+U64 x = x < 2 ^ 64
+
+-- ---- a header
+
+-- the fields of a layout
+abbrev pub TypedFields : HeaderType → Type 0
+TypedFields Type0 = Unit {0}
+TypedFields Type1 = Unit {0}
+TypedFields (Type2 t a r) = U64 t × U32 a × U32 r
+TypedFields (Type3 t a r s c) = U64 t × U32 a × U32 r × U32 s
+TypedFields (Type4 t a r w m) = U64 t × U32 a × U32 r × U32 w × U32 m
+TypedFields (Type5 t a r s c e) = U64 t × U32 a × U32 r × U32 s × U32 e
+TypedFields (Type6 t a r d k n c) = U64 t × U32 a × U32 r × U8 d × U8 k × U16 n
+TypedFields (Type0LegacyServer t a r d k s c) = U64 t × U32 a × U32 r × U8 d × U8 k × U32 s
+TypedFields (Type0LegacyGpu t a r s c) = U64 t × U32 a × U32 r × U32 s
+
+pub record Typed (h : Header) : Type 0 where
+  pub revision : U32 (h .version .revision)
+  pub type-number : U16 (h .version .«header_type»)
+  pub product : U32 (h .version .«product_id»)
+  pub kind : U8 (h .version .«record_type»)
+  pub size : U16 (h .size .«record_size»)
+  pub extended : U16 (h .size .«extended_record_size»)
+  pub fields : TypedFields (h .«header_type»)
+  pub count : length (h .«completion_statuses») ≡ 127
+  pub words : (k : ℕ) → U32 (getD (h .«completion_statuses») k 0)
+
+-- a slice of bytes
+abbrev pub Bytes : List ℕ → Type 0
+Bytes bs = (k : ℕ) → U8 (getD bs k 0)
