@@ -25,18 +25,29 @@ version-fits-requires : tie.Need-version-fits-requires
 version-fits-requires c κs = search needs
 
 returns : tie.Need-returns
-returns c = not-in-bits (c .before .before .before .before .before .args .rules .now) (c .before .before .before .before .before .args .header) (sym (c .before .version-fits .ensures) ∙ not-true _ (c .if1 .taken))
+returns c =
+    let args = c .before .before .before .before .before .args in
+    not-in-bits (args .rules .now) (args .header) (sym (c .before .version-fits .ensures) ∙ not-true _ (c .if1 .taken))
 
 as-u32-requires : tie.Need-as-u32-requires
-as-u32-requires c κs = in-bits (c .before .before .before .before .before .args .header .version) (sym (c .before .version-fits .ensures) ∙ not-false _ (c .if1 .left))
+as-u32-requires c κs =
+    let args = c .before .before .before .before .before .args in
+    in-bits (args .header .version) (sym (c .before .version-fits .ensures) ∙ not-false _ (c .if1 .left))
 
 returns-2 : tie.Need-returns-2
 returns-2 c =
-    not-zero (c .before .before .before .before .before .before .before .args .rules .now) (c .before .before .before .before .before .before .before .args .header) (sym (c .before .before .before .version-fits .ensures) ∙ not-false _ (c .before .before .if1 .left)) (sym (c .before .as-u32 .ensures) ∙ c .if2 .taken)
+    let args = c .before .before .before .before .before .before .before .args in
+    let version-fits = c .before .before .before .version-fits in
+    let if1 = c .before .before .if1 in
+    not-zero (args .rules .now) (args .header) (sym (version-fits .ensures) ∙ not-false _ (if1 .left)) (sym (c .before .as-u32 .ensures) ∙ c .if2 .taken)
 
 returns-3 : tie.Need-returns-3
 returns-3 c =
-    not-marked (c .before .before .before .before .before .before .before .before .args .rules .now) (c .before .before .before .before .before .before .before .before .args .header) (sym (c .before .before .before .before .version-fits .ensures) ∙ not-false _ (c .before .before .before .if1 .left)) (λ e. c .before .if2 .left (c .before .before .as-u32 .ensures ∙ e)) (sym (c .before .before .as-u32 .ensures) ∙ c .if3 .taken)
+    let args = c .before .before .before .before .before .before .before .before .args in
+    let version-fits = c .before .before .before .before .version-fits in
+    let if1 = c .before .before .before .if1 in
+    let as-u32 = c .before .before .as-u32 in
+    not-marked (args .rules .now) (args .header) (sym (version-fits .ensures) ∙ not-false _ (if1 .left)) (λ e. c .before .if2 .left (as-u32 .ensures ∙ e)) (sym (as-u32 .ensures) ∙ c .if3 .taken)
 
 flags-requires : tie.Need-flags-requires
 flags-requires c κs = search needs
@@ -55,11 +66,20 @@ layout-number-requires-2 c κs = search needs
 
 returns-4 : tie.Need-returns-4
 returns-4 c =
+    let as-u32 = c .before .before .before .before .before .before .before .before .as-u32 in
+    let flags = c .before .before .before .before .before .flags in
+    let layout-of = c .before .before .before .before .layout-of in
+    let layout-number = c .before .before .before .layout-number in
+    let layout-in = c .before .before .layout-in in
+    let version-fits = c .before .before .before .before .before .before .before .before .before .before .version-fits in
+    let if1 = c .before .before .before .before .before .before .before .before .before .if1 in
+    let if2 = c .before .before .before .before .before .before .before .if2 in
+    let if3 = c .before .before .before .before .before .before .if3 in
     let a = c .before .before .before .before .before .before .before .before .before .before .before .before .before .before .args in
-    let word = c .before .before .before .before .before .before .before .before .as-u32 .ensures in
-    let one = chosen (a .rules .now) word (c .before .before .before .before .before .flags .ensures) (c .before .before .before .before .layout-of .ensures) (c .before .before .before .layout-number .ensures) in
-    let other = c .before .layout-number2 .ensures ∙ ap layoutNumber (c .before .before .layout-in .ensures) in
-    not-chosen (a .rules .now) (a .header) (sym (c .before .before .before .before .before .before .before .before .before .before .version-fits .ensures) ∙ not-false _ (c .before .before .before .before .before .before .before .before .before .if1 .left)) (λ e. c .before .before .before .before .before .before .before .if2 .left (word ∙ e)) (λ e. c .before .before .before .before .before .before .if3 .left (word ∙ e))
+    let word = as-u32 .ensures in
+    let one = chosen (a .rules .now) word (flags .ensures) (layout-of .ensures) (layout-number .ensures) in
+    let other = c .before .layout-number2 .ensures ∙ ap layoutNumber (layout-in .ensures) in
+    not-chosen (a .rules .now) (a .header) (sym (version-fits .ensures) ∙ not-false _ (if1 .left)) (λ e. if2 .left (word ∙ e)) (λ e. if3 .left (word ∙ e))
     (ne-eqb _ _ (λ e. c .if4 .taken (one ∙ e ∙ sym other)))
 
 fields-fit-requires : tie.Need-fields-fit-requires
@@ -67,12 +87,22 @@ fields-fit-requires c κs = search needs
 
 returns-5 : tie.Need-returns-5
 returns-5 c =
+    let as-u32 = c .before .before .before .before .before .before .before .before .before .as-u32 in
+    let flags = c .before .before .before .before .before .before .flags in
+    let layout-of = c .before .before .before .before .before .layout-of in
+    let layout-number = c .before .before .before .before .layout-number in
+    let layout-number2 = c .before .before .layout-number2 in
+    let layout-in = c .before .before .before .layout-in in
+    let version-fits = c .before .before .before .before .before .before .before .before .before .before .before .version-fits in
+    let if1 = c .before .before .before .before .before .before .before .before .before .before .if1 in
+    let if2 = c .before .before .before .before .before .before .before .before .if2 in
+    let if3 = c .before .before .before .before .before .before .before .if3 in
     let a = c .before .before .before .before .before .before .before .before .before .before .before .before .before .before .before .args in
-    let word = c .before .before .before .before .before .before .before .before .before .as-u32 .ensures in
-    let one = chosen (a .rules .now) word (c .before .before .before .before .before .before .flags .ensures) (c .before .before .before .before .before .layout-of .ensures) (c .before .before .before .before .layout-number .ensures) in
-    let other = c .before .before .layout-number2 .ensures ∙ ap layoutNumber (c .before .before .before .layout-in .ensures) in
+    let word = as-u32 .ensures in
+    let one = chosen (a .rules .now) word (flags .ensures) (layout-of .ensures) (layout-number .ensures) in
+    let other = layout-number2 .ensures ∙ ap layoutNumber (layout-in .ensures) in
     c .fields-fit .ensures
-    ∙ as-fit (a .rules .now) (a .header) (sym (c .before .before .before .before .before .before .before .before .before .before .before .version-fits .ensures) ∙ not-false _ (c .before .before .before .before .before .before .before .before .before .before .if1 .left)) (λ e. c .before .before .before .before .before .before .before .before .if2 .left (word ∙ e)) (λ e. c .before .before .before .before .before .before .before .if3 .left (word ∙ e))
+    ∙ as-fit (a .rules .now) (a .header) (sym (version-fits .ensures) ∙ not-false _ (if1 .left)) (λ e. if2 .left (word ∙ e)) (λ e. if3 .left (word ∙ e))
     (eq-eqb _ _ (sym one ∙ c .before .if4 .left ∙ other))
 
 pub can-encode-spec : {M : Type 1} → statement M

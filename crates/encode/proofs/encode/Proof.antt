@@ -51,7 +51,9 @@ refused-requires c κs = search needs
 
 returns : tie.Need-returns
 returns c =
-    bad-rules (c .before .before .before .before .before .args .rules .now) (c .before .before .before .before .before .args .header) (c .before .before .before .before .before .args .out .now) (sym (c .before .before .valid .ensures) ∙ not-true _ (c .before .if1 .taken)) (c .refused .ensures)
+    let args = c .before .before .before .before .before .args in
+    let valid = c .before .before .valid in
+    bad-rules (args .rules .now) (args .header) (args .out .now) (sym (valid .ensures) ∙ not-true _ (c .before .if1 .taken)) (c .refused .ensures)
 
 can-encode-requires : tie.Need-can-encode-requires
 can-encode-requires c κs = search needs
@@ -61,7 +63,11 @@ refused-requires-2 c κs = search needs
 
 returns-2 : tie.Need-returns-2
 returns-2 c =
-    bad-field (c .before .before .before .before .before .before .before .args .rules .now) (c .before .before .before .before .before .before .before .args .header) (c .before .before .before .before .before .before .before .args .out .now) (sym (c .before .before .before .before .valid .ensures) ∙ not-false _ (c .before .before .before .if1 .left)) (sym (c .before .before .can-encode .ensures) ∙ not-true _ (c .before .if2 .taken)) (c .refused2 .ensures)
+    let args = c .before .before .before .before .before .before .before .args in
+    let valid = c .before .before .before .before .valid in
+    let if1 = c .before .before .before .if1 in
+    let can-encode = c .before .before .can-encode in
+    bad-field (args .rules .now) (args .header) (args .out .now) (sym (valid .ensures) ∙ not-false _ (if1 .left)) (sym (can-encode .ensures) ∙ not-true _ (c .before .if2 .taken)) (c .refused2 .ensures)
 
 header-size-requires : tie.Need-header-size-requires
 header-size-requires c κs = search needs
@@ -71,14 +77,23 @@ refused-requires-3 c κs = search needs
 
 returns-3 : tie.Need-returns-3
 returns-3 c =
-    let size = c .before .before .header-size .ensures in
-    short (c .before .before .before .before .before .before .before .before .before .args .rules .now) (c .before .before .before .before .before .before .before .before .before .args .header) (c .before .before .before .before .before .before .before .before .before .args .out .now) (sym (c .before .before .before .before .before .before .valid .ensures) ∙ not-false _ (c .before .before .before .before .before .if1 .left)) (sym (c .before .before .before .before .can-encode .ensures) ∙ not-false _ (c .before .before .before .if2 .left)) (omega arith) (c .refused3 .ensures)
+    let header-size = c .before .before .header-size in
+    let args = c .before .before .before .before .before .before .before .before .before .args in
+    let valid = c .before .before .before .before .before .before .valid in
+    let if1 = c .before .before .before .before .before .if1 in
+    let can-encode = c .before .before .before .before .can-encode in
+    let if2 = c .before .before .before .if2 in
+    let size = header-size .ensures in
+    short (args .rules .now) (args .header) (args .out .now) (sym (valid .ensures) ∙ not-false _ (if1 .left)) (sym (can-encode .ensures) ∙ not-false _ (if2 .left)) (omega arith) (c .refused3 .ensures)
 
 put-header-requires : tie.Need-put-header-requires
 put-header-requires c κs =
+    let header-size = c .before .before .header-size in
+    let can-encode = c .before .before .before .before .can-encode in
+    let if2 = c .before .before .before .if2 in
     let a = c .before .before .before .before .before .before .before .before .before .args in
-    let size = c .before .before .header-size .ensures in
-    let can = sym (c .before .before .before .before .can-encode .ensures) ∙ not-false _ (c .before .before .before .if2 .left) in
+    let size = header-size .ensures in
+    let can = sym (can-encode .ensures) ∙ not-false _ (if2 .left) in
     ((omega arith, in-bits (a .header .version) (can-version (a .rules .now) (a .header) can)), can-fit (a .rules .now) (a .header) can)
 
 same-length : tie.Need-same-length
@@ -86,13 +101,19 @@ same-length c = search needs
 
 returns-4 : tie.Need-returns-4
 returns-4 c =
+    let header-size = c .before .before .before .before .before .header-size in
+    let can-encode = c .before .before .before .before .before .before .before .can-encode in
+    let if2 = c .before .before .before .before .before .before .if2 in
+    let valid = c .before .before .before .before .before .before .before .before .before .valid in
+    let if1 = c .before .before .before .before .before .before .before .before .if1 in
+    let put-header = c .before .before .put-header in
     let a = c .before .before .before .before .before .before .before .before .before .before .before .before .args in
-    let size = c .before .before .before .before .before .header-size .ensures in
+    let size = header-size .ensures in
     let room : headerSize (a .header .«header_type») ≤ length (a .out .now) = omega arith in
-    let can = sym (c .before .before .before .before .before .before .before .can-encode .ensures) ∙ not-false _ (c .before .before .before .before .before .before .if2 .left) in
+    let can = sym (can-encode .ensures) ∙ not-false _ (if2 .left) in
     let words : length (a .header .«completion_statuses») ≡ 127 = search needs in
-    done (a .rules .now) (a .header) (a .out .now) (sym (c .before .before .before .before .before .before .before .before .before .valid .ensures) ∙ not-false _ (c .before .before .before .before .before .before .before .before .if1 .left)) can room
-    (c .before .before .put-header .ensures ∙ written-bytes (a .header) (a .out .now) (omega (arith, can-count (a .rules .now) (a .header) can)) room) size
+    done (a .rules .now) (a .header) (a .out .now) (sym (valid .ensures) ∙ not-false _ (if1 .left)) can room
+    (put-header .ensures ∙ written-bytes (a .header) (a .out .now) (omega (arith, can-count (a .rules .now) (a .header) can)) room) size
 
 pub encode-spec : {M : Type 1} → statement M
 encode-spec =

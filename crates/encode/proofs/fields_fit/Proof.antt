@@ -50,26 +50,35 @@ returns-3 : tie.Need-returns-3
 returns-3 c = search needs
 
 returns-4 : tie.Need-returns-4
-returns-4 c = sym (ap (λ (t : HeaderType). fieldsFit t (c .before .before .before .args .revision) (c .before .before .before .args .extended)) (c .before .header-type .given .1))
+returns-4 c =
+    let args = c .before .before .before .args in
+    sym (ap (λ (t : HeaderType). fieldsFit t (args .revision) (args .extended)) (c .before .header-type .given .1))
 
 returns-5 : tie.Need-returns-5
 returns-5 c = search needs
 
 returns-6 : tie.Need-returns-6
-returns-6 c = sym (ap (λ (t : HeaderType). fieldsFit t (c .before .before .before .args .revision) (c .before .before .before .args .extended)) (c .before .header-type2 .given .1))
+returns-6 c =
+    let args = c .before .before .before .args in
+    sym (ap (λ (t : HeaderType). fieldsFit t (args .revision) (args .extended)) (c .before .header-type2 .given .1))
 
 returns-7 : tie.Need-returns-7
-returns-7 c = sym (ap (λ (t : HeaderType). fieldsFit t (c .before .before .before .args .revision) (c .before .before .before .args .extended)) (c .before .header-type3 .given .1))
+returns-7 c =
+    let args = c .before .before .before .args in
+    sym (ap (λ (t : HeaderType). fieldsFit t (args .revision) (args .extended)) (c .before .header-type3 .given .1))
 
 returns-8 : tie.Need-returns-8
 returns-8 c =
+    let header-type4 = c .before .before .header-type4 in
     let a = c .before .before .before .before .args in
-    let f = c .before .before .header-type4 .given in
+    let f = header-type4 .given in
     ap (λ (d : ℕ). statusFits (f .0 .1 .1 .1 .1 .1 .0) && (eqb (a .extended) 0 && eqb (f .0 .1 .1 .1 .0) d)) (c .server-die .ensures)
     ∙ sym (ap (λ (t : HeaderType). fieldsFit t (a .revision) (a .extended)) (f .1))
 
 returns-9 : tie.Need-returns-9
-returns-9 c = sym (ap (λ (t : HeaderType). fieldsFit t (c .before .before .before .args .revision) (c .before .before .before .args .extended)) (c .before .header-type5 .given .1))
+returns-9 c =
+    let args = c .before .before .before .args in
+    sym (ap (λ (t : HeaderType). fieldsFit t (args .revision) (args .extended)) (c .before .header-type5 .given .1))
 
 pub fields-fit-spec : {M : Type 1} → statement M
 fields-fit-spec =

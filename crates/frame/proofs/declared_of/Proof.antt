@@ -25,8 +25,9 @@ in-bytes-requires c κs = search needs
 returns : tie.Need-returns
 unfolding declaredOf
 returns c =
+    let args = c .before .before .before .before .before .args in
     let size = c .before .before .before .sizes-of in
-    (c .in-bytes .ensures .0 ∙ ap₂ (λ (a b : ℕ). (a + b) * unit (c .before .before .before .before .before .args .flags)) (size .ensures .0) (size .ensures .1), c .in-bytes .ensures .1)
+    (c .in-bytes .ensures .0 ∙ ap₂ (λ (a b : ℕ). (a + b) * unit (args .flags)) (size .ensures .0) (size .ensures .1), c .in-bytes .ensures .1)
 
 pub declared-of-spec : {M : Type 1} → statement M
 declared-of-spec =

@@ -41,32 +41,37 @@ size-of-requires c κs = search needs
 
 returns-2 : tie.Need-returns-2
 returns-2 c =
+    let if1 = c .before .before .before .if1 in
     let a = c .before .before .before .before .before .before .before .args in
     let word = c .before .before .before .before .word-of in
     let flags = c .before .before .flags in
     let size = c .before .size-of in
     let bad = sym (size .ensures .0) ∙ c .if2 .taken in (
-      sym (head-bad-type (a .s .now) (word .result) (flags .result) (c .before .before .before .if1 .left) bad)
+      sym (head-bad-type (a .s .now) (word .result) (flags .result) (if1 .left) bad)
           ∙ known (a .rules .now) (a .s .now) (word .result) (word .ensures) (flags .result) (flags .ensures),
       (bad-from-seven (a .s .now) (word .result) (flags .result) bad, omega arith),
     )
 
 returns-3 : tie.Need-returns-3
 returns-3 c =
+    let if1 = c .before .before .before .before .if1 in
     let a = c .before .before .before .before .before .before .before .before .args in
     let word = c .before .before .before .before .before .word-of in
     let flags = c .before .before .before .flags in
     let size = c .before .before .size-of in (
-      sym (head-bad-header (a .s .now) (word .result) (flags .result) (c .before .before .before .before .if1 .left) (sym (size .ensures .0) ∙ c .if3 .taken))
+      sym (head-bad-header (a .s .now) (word .result) (flags .result) (if1 .left) (sym (size .ensures .0) ∙ c .if3 .taken))
           ∙ known (a .rules .now) (a .s .now) (word .result) (word .ensures) (flags .result) (flags .ensures),
       tt,
     )
 
 declared-of-requires : tie.Need-declared-of-requires
-declared-of-requires c κs = c .before .before .size-of .ensures .1 (omega arith) .sizes
+declared-of-requires c κs =
+    let size-of = c .before .before .size-of in
+    size-of .ensures .1 (omega arith) .sizes
 
 returns-4 : tie.Need-returns-4
 returns-4 c =
+    let if1 = c .before .before .before .before .before .if1 in
     let a = c .before .before .before .before .before .before .before .before .before .args in
     let word = c .before .before .before .before .before .before .word-of in
     let flags = c .before .before .before .before .flags in
@@ -74,7 +79,7 @@ returns-4 c =
     let more : lacking < size .result = omega arith in
     let found = size .ensures .1 more in (
       ap₂ (λ (d z : ℕ). Record (word .result) (flags .result) d z) (c .declared-of .ensures .0) (size .ensures .0)
-          ∙ sym (head-record (a .s .now) (word .result) (flags .result) (c .before .before .before .before .before .if1 .left) (rw (size .ensures .0) at more))
+          ∙ sym (head-record (a .s .now) (word .result) (flags .result) (if1 .left) (rw (size .ensures .0) at more))
           ∙ known (a .rules .now) (a .s .now) (word .result) (word .ensures) (flags .result) (flags .ensures),
       (c .declared-of .ensures .1, found .least, found .most),
     )

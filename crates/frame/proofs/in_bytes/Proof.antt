@@ -13,7 +13,8 @@ has-flag-requires c κs = search needs
 
 returns : tie.Need-returns
 returns c =
-    let one : unit (c .before .before .args .flags) ≡ 1 = unit-one (c .before .before .args .flags) (sym (c .before .has-flag .ensures) ∙ c .if1 .taken) in
+    let args = c .before .before .args in
+    let one : unit (args .flags) ≡ 1 = unit-one (args .flags) (sym (c .before .has-flag .ensures) ∙ c .if1 .taken) in
     (rw one (omega arith), omega arith)
 
 mul-result : tie.Need-mul-result
@@ -21,7 +22,8 @@ mul-result c = search needs
 
 returns-2 : tie.Need-returns-2
 returns-2 c =
-    let four : unit (c .before .before .args .flags) ≡ 4 = unit-four (c .before .before .args .flags) (sym (c .before .has-flag .ensures) ∙ c .if1 .left) in
+    let args = c .before .before .args in
+    let four : unit (args .flags) ≡ 4 = unit-four (args .flags) (sym (c .before .has-flag .ensures) ∙ c .if1 .left) in
     (rw four, omega arith)
 
 pub in-bytes-spec : {M : Type 1} → statement M

@@ -11,13 +11,19 @@ has-flag-requires : tie.Need-has-flag-requires
 has-flag-requires c κs = search needs
 
 returns : tie.Need-returns
-returns c = layout-server (c .before .before .args .word) (c .before .before .args .flags) (sym (c .before .has-flag .ensures) ∙ c .if1 .taken)
+returns c =
+    let args = c .before .before .args in
+    layout-server (args .word) (args .flags) (sym (c .before .has-flag .ensures) ∙ c .if1 .taken)
 
 has-flag-requires-2 : tie.Need-has-flag-requires-2
 has-flag-requires-2 c κs = search needs
 
 returns-2 : tie.Need-returns-2
-returns-2 c = layout-gpu (c .before .before .before .before .args .word) (c .before .before .before .before .args .flags) (sym (c .before .before .before .has-flag .ensures) ∙ c .before .before .if1 .left) (sym (c .before .has-flag2 .ensures) ∙ c .if2 .taken)
+returns-2 c =
+    let args = c .before .before .before .before .args in
+    let has-flag = c .before .before .before .has-flag in
+    let if1 = c .before .before .if1 in
+    layout-gpu (args .word) (args .flags) (sym (has-flag .ensures) ∙ if1 .left) (sym (c .before .has-flag2 .ensures) ∙ c .if2 .taken)
 
 slice-aggregate-shape-of : tie.Need-slice-aggregate-shape-of
 slice-aggregate-shape-of c = search needs
@@ -27,8 +33,13 @@ shape-of-requires c κs = search needs
 
 returns-3 : tie.Need-returns-3
 returns-3 c =
+    let args = c .before .before .before .before .before .before .args in
+    let has-flag = c .before .before .before .before .before .has-flag in
+    let if1 = c .before .before .before .before .if1 in
+    let has-flag2 = c .before .before .before .has-flag2 in
+    let if2 = c .before .before .if2 in
     ap (λ (p : Shape). p .layout) (c .shape-of .ensures)
-    ∙ layout-typed (c .before .before .before .before .before .before .args .word) (c .before .before .before .before .before .before .args .flags) (sym (c .before .before .before .before .before .has-flag .ensures) ∙ c .before .before .before .before .if1 .left) (sym (c .before .before .before .has-flag2 .ensures) ∙ c .before .before .if2 .left)
+    ∙ layout-typed (args .word) (args .flags) (sym (has-flag .ensures) ∙ if1 .left) (sym (has-flag2 .ensures) ∙ if2 .left)
 
 pub layout-of-spec : {M : Type 1} → statement M
 layout-of-spec =

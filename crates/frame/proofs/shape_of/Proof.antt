@@ -57,10 +57,14 @@ returns-7 : tie.Need-returns-7
 returns-7 c = rw (c .before .match .keys7) (ap (λ (n : ℕ). record { layout = Six; size = 28 + 4 * n }) (c .count-of .ensures .0))
 
 returns-8 : tie.Need-returns-8
-returns-8 c = bad (c .before .before .before .args .s .now) (c .before .before .before .args .header-type) (layout-bad (c .before .before .before .args .header-type) (beyond (c .before)))
+returns-8 c =
+    let args = c .before .before .before .args in
+    bad (args .s .now) (args .header-type) (layout-bad (args .header-type) (beyond (c .before)))
 
 returns-9 : tie.Need-returns-9
-returns-9 c = bad (c .before .before .before .args .s .now) (c .before .before .before .args .header-type) (layout-bad (c .before .before .before .args .header-type) (beyond (c .before)))
+returns-9 c =
+    let args = c .before .before .before .args in
+    bad (args .s .now) (args .header-type) (layout-bad (args .header-type) (beyond (c .before)))
 
 pub shape-of-spec : {M : Type 1} → statement M
 shape-of-spec =

@@ -23,13 +23,15 @@ sized-requires c κs = search needs
 
 returns : tie.Need-returns
 returns c =
+    let is-legacy = c .before .before .is-legacy in
     let a = c .before .before .before .before .args in
-    both (a .s .now) (a .word) (a .flags) (c .sized .result) (c .sized .ensures ∙ size-legacy (a .s .now) (a .word) (a .flags) (sym (c .before .before .is-legacy .ensures) ∙ c .before .if1 .taken))
+    both (a .s .now) (a .word) (a .flags) (c .sized .result) (c .sized .ensures ∙ size-legacy (a .s .now) (a .word) (a .flags) (sym (is-legacy .ensures) ∙ c .before .if1 .taken))
 
 returns-2 : tie.Need-returns-2
 returns-2 c =
+    let is-legacy = c .before .before .is-legacy in
     let a = c .before .before .before .before .args in
-    both (a .s .now) (a .word) (a .flags) 1 (size-short (a .s .now) (a .word) (a .flags) (omega (arith, plain-end (a .flags) (sym (c .before .before .is-legacy .ensures) ∙ c .before .if1 .left))))
+    both (a .s .now) (a .word) (a .flags) 1 (size-short (a .s .now) (a .word) (a .flags) (omega (arith, plain-end (a .flags) (sym (is-legacy .ensures) ∙ c .before .if1 .left))))
 
 shape-of-requires : tie.Need-shape-of-requires
 shape-of-requires c κs = search needs
@@ -39,10 +41,12 @@ sized-requires-2 c κs = search needs
 
 returns-3 : tie.Need-returns-3
 returns-3 c =
+    let is-legacy = c .before .before .before .before .is-legacy in
+    let if1 = c .before .before .before .if1 in
     let a = c .before .before .before .before .before .before .args in
     both (a .s .now) (a .word) (a .flags) (c .sized2 .result)
     (c .sized2 .ensures ∙ ap (λ (p : Shape). enough (a .s .now) (p .size)) (c .before .shape-of .ensures)
-    ∙ size-typed (a .s .now) (a .word) (a .flags) (sym (c .before .before .before .before .is-legacy .ensures) ∙ c .before .before .before .if1 .left) (omega arith))
+    ∙ size-typed (a .s .now) (a .word) (a .flags) (sym (is-legacy .ensures) ∙ if1 .left) (omega arith))
 
 pub size-of-spec : {M : Type 1} → statement M
 size-of-spec =

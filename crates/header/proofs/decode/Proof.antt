@@ -41,7 +41,10 @@ refused-requires : tie.Need-refused-requires
 refused-requires c κs = search needs
 
 returns : tie.Need-returns
-returns c = bad-rules (c .before .before .before .before .before .args .rules .now) (c .before .before .before .before .before .args .s .now) (sym (c .before .before .valid .ensures) ∙ not-true _ (c .before .if1 .taken)) (c .refused .ensures)
+returns c =
+    let args = c .before .before .before .before .before .args in
+    let valid = c .before .before .valid in
+    bad-rules (args .rules .now) (args .s .now) (sym (valid .ensures) ∙ not-true _ (c .before .if1 .taken)) (c .refused .ensures)
 
 frame-requires : tie.Need-frame-requires
 frame-requires c κs = search needs
@@ -68,28 +71,49 @@ enum-known-word : tie.Need-enum-known-word
 enum-known-word c = search needs
 
 header-of-requires : tie.Need-header-of-requires
-header-of-requires c κs = record-size (c .before .before .before .before .before .before .before .before .args .rules .now) (c .before .before .before .before .before .before .before .before .args .s .now) (c .before .before .before .frame .ensures .0) (c .before .word .given .1)
+header-of-requires c κs =
+    let args = c .before .before .before .before .before .before .before .before .args in
+    let frame = c .before .before .before .frame in
+    record-size (args .rules .now) (args .s .now) (frame .ensures .0) (c .before .word .given .1)
 
 returns-2 : tie.Need-returns-2
 unfolding decodedFrom
 returns-2 c =
-    found (c .before .before .before .before .before .before .before .before .args .rules .now) (c .before .before .before .before .before .before .before .before .args .s .now) (sym (c .before .before .before .before .before .valid .ensures) ∙ not-false _ (c .before .before .before .before .if1 .left)) (c .before .before .before .frame .ensures .0) (c .before .enum-told .given .1) (c .refused2 .ensures)
+    let args = c .before .before .before .before .before .before .before .before .args in
+    let valid = c .before .before .before .before .before .valid in
+    let if1 = c .before .before .before .before .if1 in
+    let frame = c .before .before .before .frame in
+    found (args .rules .now) (args .s .now) (sym (valid .ensures) ∙ not-false _ (if1 .left)) (frame .ensures .0) (c .before .enum-told .given .1) (c .refused2 .ensures)
 
 returns-3 : tie.Need-returns-3
 unfolding decodedFrom
 returns-3 c =
-    found (c .before .before .before .before .before .before .before .before .args .rules .now) (c .before .before .before .before .before .before .before .before .args .s .now) (sym (c .before .before .before .before .before .valid .ensures) ∙ not-false _ (c .before .before .before .before .if1 .left)) (c .before .before .before .frame .ensures .0) (c .before .enum-told2 .given .1) (c .refused3 .ensures)
+    let args = c .before .before .before .before .before .before .before .before .args in
+    let valid = c .before .before .before .before .before .valid in
+    let if1 = c .before .before .before .before .if1 in
+    let frame = c .before .before .before .frame in
+    found (args .rules .now) (args .s .now) (sym (valid .ensures) ∙ not-false _ (if1 .left)) (frame .ensures .0) (c .before .enum-told2 .given .1) (c .refused3 .ensures)
 
 returns-4 : tie.Need-returns-4
 unfolding decodedFrom
 returns-4 c =
-    found (c .before .before .before .before .before .before .before .before .before .args .rules .now) (c .before .before .before .before .before .before .before .before .before .args .s .now) (sym (c .before .before .before .before .before .before .valid .ensures) ∙ not-false _ (c .before .before .before .before .before .if1 .left)) (c .before .before .before .before .frame .ensures .0) (c .before .before .header-type .given .1) (c .refused4 .ensures)
+    let args = c .before .before .before .before .before .before .before .before .before .args in
+    let valid = c .before .before .before .before .before .before .valid in
+    let if1 = c .before .before .before .before .before .if1 in
+    let frame = c .before .before .before .before .frame in
+    let header-type = c .before .before .header-type in
+    found (args .rules .now) (args .s .now) (sym (valid .ensures) ∙ not-false _ (if1 .left)) (frame .ensures .0) (header-type .given .1) (c .refused4 .ensures)
 
 returns-5 : tie.Need-returns-5
 unfolding decodedFrom
 returns-5 c =
-    found (c .before .before .before .before .before .before .before .before .before .args .rules .now) (c .before .before .before .before .before .before .before .before .before .args .s .now) (sym (c .before .before .before .before .before .before .valid .ensures) ∙ not-false _ (c .before .before .before .before .before .if1 .left)) (c .before .before .before .before .frame .ensures .0) (c .before .before .word .given .1)
-    (ap (λ (h : Header). record { answer = Done; header = h; flags = c .before .before .word .given .0 .1 .0; declared = c .before .before .word .given .0 .1 .1 .0; «header_size» = c .before .before .word .given .0 .1 .1 .1 .0 }) (c .header-of .ensures))
+    let args = c .before .before .before .before .before .before .before .before .before .args in
+    let valid = c .before .before .before .before .before .before .valid in
+    let if1 = c .before .before .before .before .before .if1 in
+    let frame = c .before .before .before .before .frame in
+    let word = c .before .before .word in
+    found (args .rules .now) (args .s .now) (sym (valid .ensures) ∙ not-false _ (if1 .left)) (frame .ensures .0) (word .given .1)
+    (ap (λ (h : Header). record { answer = Done; header = h; flags = word .given .0 .1 .0; declared = word .given .0 .1 .1 .0; «header_size» = word .given .0 .1 .1 .1 .0 }) (c .header-of .ensures))
 
 pub decode-spec : {M : Type 1} → statement M
 decode-spec =

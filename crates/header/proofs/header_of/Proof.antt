@@ -44,18 +44,32 @@ from-u32-requires : tie.Need-from-u32-requires
 from-u32-requires c κs = search needs
 
 sizes-of-requires : tie.Need-sizes-of-requires
-sizes-of-requires c κs = size-found (c .before .before .before .args .s .now) (c .before .before .before .args .word) (c .before .before .before .args .flags) (c .before .before .before .pre) .0
+sizes-of-requires c κs =
+    let args = c .before .before .before .args in
+    let pre = c .before .before .before .pre in
+    size-found (args .s .now) (args .word) (args .flags) (pre) .0
 
 fields-of-requires : tie.Need-fields-of-requires
-fields-of-requires c κs = there (c .before .before .before .before .args .s .now) (c .before .before .before .before .args .word) (c .before .before .before .before .args .flags) (c .before .before .layout-of .result) (c .before .before .layout-of .ensures) (c .before .before .before .before .pre)
+fields-of-requires c κs =
+    let args = c .before .before .before .before .args in
+    let layout-of = c .before .before .layout-of in
+    let pre = c .before .before .before .before .pre in
+    there (args .s .now) (args .word) (args .flags) (layout-of .result) (layout-of .ensures) (pre)
 
 statuses-of-requires : tie.Need-statuses-of-requires
-statuses-of-requires c κs = there (c .before .before .before .before .before .args .s .now) (c .before .before .before .before .before .args .word) (c .before .before .before .before .before .args .flags) (c .before .before .before .layout-of .result) (c .before .before .before .layout-of .ensures) (c .before .before .before .before .before .pre)
+statuses-of-requires c κs =
+    let args = c .before .before .before .before .before .args in
+    let layout-of = c .before .before .before .layout-of in
+    let pre = c .before .before .before .before .before .pre in
+    there (args .s .now) (args .word) (args .flags) (layout-of .result) (layout-of .ensures) (pre)
 
 returns : tie.Need-returns
 returns c =
+    let layout-of = c .before .before .before .before .layout-of in
+    let from-u32 = c .before .before .before .from-u32 in
+    let sizes-of = c .before .before .sizes-of in
     let a = c .before .before .before .before .before .before .args in
-    assembled (a .s .now) (a .word) (a .flags) (c .before .before .before .before .layout-of .ensures) (c .before .before .before .from-u32 .ensures) (c .before .before .sizes-of .ensures) (c .before .fields-of .ensures) (c .statuses-of .ensures)
+    assembled (a .s .now) (a .word) (a .flags) (layout-of .ensures) (from-u32 .ensures) (sizes-of .ensures) (c .before .fields-of .ensures) (c .statuses-of .ensures)
 
 pub header-of-spec : {M : Type 1} → statement M
 header-of-spec =

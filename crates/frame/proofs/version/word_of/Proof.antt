@@ -7,16 +7,22 @@ use Rattle.frame.proofs.version.word_of.Statement.{statement}
 use Rattle.frame.proofs.version.word_of.Tie as tie
 
 returns : tie.Need-returns
-returns c = word-short (c .before .before .args .s .now) (omega arith)
+returns c =
+    let args = c .before .before .args in
+    word-short (args .s .now) (omega arith)
 
 u32-at-requires : tie.Need-u32-at-requires
 u32-at-requires c κs = search needs
 
 returns-2 : tie.Need-returns-2
-returns-2 c = word-marked (c .before .before .before .before .args .s .now) (omega arith) (c .before .u32-at .result) (c .before .u32-at .ensures) (c .if2 .taken)
+returns-2 c =
+    let args = c .before .before .before .before .args in
+    word-marked (args .s .now) (omega arith) (c .before .u32-at .result) (c .before .u32-at .ensures) (c .if2 .taken)
 
 returns-3 : tie.Need-returns-3
-returns-3 c = word-there (c .before .before .before .before .args .s .now) (omega arith) (c .before .u32-at .result) (c .before .u32-at .ensures) (c .if2 .left)
+returns-3 c =
+    let args = c .before .before .before .before .args in
+    word-there (args .s .now) (omega arith) (c .before .u32-at .result) (c .before .u32-at .ensures) (c .if2 .left)
 
 pub word-of-spec : {M : Type 1} → statement M
 word-of-spec = tie.close (tie.spec returns u32-at-requires returns-2 returns-3)

@@ -15,7 +15,9 @@ in-bytes-requires : tie.Need-in-bytes-requires
 in-bytes-requires c κs = search needs
 
 returns : tie.Need-returns
-returns c = rw (lt-ltb _ _ (c .before .before .if1 .taken)) (ap Extended.At (c .in-bytes .ensures .0))
+returns c =
+    let if1 = c .before .before .if1 in
+    rw (lt-ltb _ _ (if1 .taken)) (ap Extended.At (c .in-bytes .ensures .0))
 
 returns-2 : tie.Need-returns-2
 returns-2 c = rw (le-ltb _ _ (c .if1 .left))

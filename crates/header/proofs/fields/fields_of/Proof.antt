@@ -31,45 +31,65 @@ enum-told-3 : tie.Need-enum-told-3
 enum-told-3 c = search needs
 
 type2-requires : tie.Need-type2-requires
-type2-requires c κs = there (c .before .before .before .args .s .now) (c .enum-told3 .given .1) (c .before .before .before .pre)
+type2-requires c κs =
+    let args = c .before .before .before .args in
+    let pre = c .before .before .before .pre in
+    there (args .s .now) (c .enum-told3 .given .1) (pre)
 
 enum-told-4 : tie.Need-enum-told-4
 enum-told-4 c = search needs
 
 type3-requires : tie.Need-type3-requires
-type3-requires c κs = there (c .before .before .before .args .s .now) (c .enum-told4 .given .1) (c .before .before .before .pre)
+type3-requires c κs =
+    let args = c .before .before .before .args in
+    let pre = c .before .before .before .pre in
+    there (args .s .now) (c .enum-told4 .given .1) (pre)
 
 enum-told-5 : tie.Need-enum-told-5
 enum-told-5 c = search needs
 
 type4-requires : tie.Need-type4-requires
-type4-requires c κs = there (c .before .before .before .args .s .now) (c .enum-told5 .given .1) (c .before .before .before .pre)
+type4-requires c κs =
+    let args = c .before .before .before .args in
+    let pre = c .before .before .before .pre in
+    there (args .s .now) (c .enum-told5 .given .1) (pre)
 
 enum-told-6 : tie.Need-enum-told-6
 enum-told-6 c = search needs
 
 type5-requires : tie.Need-type5-requires
-type5-requires c κs = there (c .before .before .before .args .s .now) (c .enum-told6 .given .1) (c .before .before .before .pre)
+type5-requires c κs =
+    let args = c .before .before .before .args in
+    let pre = c .before .before .before .pre in
+    there (args .s .now) (c .enum-told6 .given .1) (pre)
 
 enum-told-7 : tie.Need-enum-told-7
 enum-told-7 c = search needs
 
 type6-requires : tie.Need-type6-requires
 type6-requires c κs =
-    let h = there (c .before .before .before .args .s .now) (c .enum-told7 .given .1) (c .before .before .before .pre) in
+    let args = c .before .before .before .args in
+    let pre = c .before .before .before .pre in
+    let h = there (args .s .now) (c .enum-told7 .given .1) (pre) in
     omega arith
 
 enum-told-8 : tie.Need-enum-told-8
 enum-told-8 c = search needs
 
 type0-legacy-server-requires : tie.Need-type0-legacy-server-requires
-type0-legacy-server-requires c κs = there (c .before .before .before .args .s .now) (c .enum-told8 .given .1) (c .before .before .before .pre)
+type0-legacy-server-requires c κs =
+    let args = c .before .before .before .args in
+    let pre = c .before .before .before .pre in
+    there (args .s .now) (c .enum-told8 .given .1) (pre)
 
 enum-told-9 : tie.Need-enum-told-9
 enum-told-9 c = search needs
 
 type0-legacy-gpu-requires : tie.Need-type0-legacy-gpu-requires
-type0-legacy-gpu-requires c κs = there (c .before .before .before .args .s .now) (c .enum-told9 .given .1) (c .before .before .before .pre)
+type0-legacy-gpu-requires c κs =
+    let args = c .before .before .before .args in
+    let pre = c .before .before .before .pre in
+    there (args .s .now) (c .enum-told9 .given .1) (pre)
 
 enum-told-10 : tie.Need-enum-told-10
 enum-told-10 c = search needs
@@ -81,25 +101,39 @@ returns-2 : tie.Need-returns-2
 returns-2 c = search needs
 
 returns-3 : tie.Need-returns-3
-returns-3 c = given (c .before .before .before .before .args .s .now) (c .before .enum-told3 .given .1) (c .type2 .ensures)
+returns-3 c =
+    let args = c .before .before .before .before .args in
+    given (args .s .now) (c .before .enum-told3 .given .1) (c .type2 .ensures)
 
 returns-4 : tie.Need-returns-4
-returns-4 c = given (c .before .before .before .before .args .s .now) (c .before .enum-told4 .given .1) (c .type3 .ensures)
+returns-4 c =
+    let args = c .before .before .before .before .args in
+    given (args .s .now) (c .before .enum-told4 .given .1) (c .type3 .ensures)
 
 returns-5 : tie.Need-returns-5
-returns-5 c = given (c .before .before .before .before .args .s .now) (c .before .enum-told5 .given .1) (c .type4 .ensures)
+returns-5 c =
+    let args = c .before .before .before .before .args in
+    given (args .s .now) (c .before .enum-told5 .given .1) (c .type4 .ensures)
 
 returns-6 : tie.Need-returns-6
-returns-6 c = given (c .before .before .before .before .args .s .now) (c .before .enum-told6 .given .1) (c .type5 .ensures)
+returns-6 c =
+    let args = c .before .before .before .before .args in
+    given (args .s .now) (c .before .enum-told6 .given .1) (c .type5 .ensures)
 
 returns-7 : tie.Need-returns-7
-returns-7 c = given (c .before .before .before .before .args .s .now) (c .before .enum-told7 .given .1) (c .type6 .ensures)
+returns-7 c =
+    let args = c .before .before .before .before .args in
+    given (args .s .now) (c .before .enum-told7 .given .1) (c .type6 .ensures)
 
 returns-8 : tie.Need-returns-8
-returns-8 c = given (c .before .before .before .before .args .s .now) (c .before .enum-told8 .given .1) (c .type0-legacy-server .ensures)
+returns-8 c =
+    let args = c .before .before .before .before .args in
+    given (args .s .now) (c .before .enum-told8 .given .1) (c .type0-legacy-server .ensures)
 
 returns-9 : tie.Need-returns-9
-returns-9 c = given (c .before .before .before .before .args .s .now) (c .before .enum-told9 .given .1) (c .type0-legacy-gpu .ensures)
+returns-9 c =
+    let args = c .before .before .before .before .args in
+    given (args .s .now) (c .before .enum-told9 .given .1) (c .type0-legacy-gpu .ensures)
 
 returns-10 : tie.Need-returns-10
 returns-10 c = search needs

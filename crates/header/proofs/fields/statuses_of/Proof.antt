@@ -39,19 +39,25 @@ count-of-requires c κs = search needs
 
 words-of-requires : tie.Need-words-of-requires
 words-of-requires c κs =
+    let args = c .before .before .before .before .args in
+    let pre = c .before .before .before .before .pre in
     let n = c .count-of .ensures in
-    let h = there (c .before .before .before .before .args .s .now) (c .before .enum-told .given .1) (c .before .before .before .before .pre) in
+    let h = there (args .s .now) (c .before .enum-told .given .1) (pre) in
     (n .1, rw (n .0) h)
 
 returns : tie.Need-returns
 returns c =
+    let args = c .before .before .before .before .before .args in
+    let enum-told = c .before .before .enum-told in
     c .words-of .ensures
-    ∙ ap (λ (n : ℕ). padded (readAll (cells 28 4 n) (c .before .before .before .before .before .args .s .now))) (c .before .count-of .ensures .0)
-    ∙ statuses-six (c .before .before .before .before .before .args .s .now)
-    ∙ ap (λ (l : Layout). statusesFrom (numbersOf (c .before .before .before .before .before .args .s .now) l)) (sym (c .before .before .enum-told .given .1))
+    ∙ ap (λ (n : ℕ). padded (readAll (cells 28 4 n) (args .s .now))) (c .before .count-of .ensures .0)
+    ∙ statuses-six (args .s .now)
+    ∙ ap (λ (l : Layout). statusesFrom (numbersOf (args .s .now) l)) (sym (enum-told .given .1))
 
 returns-2 : tie.Need-returns-2
-returns-2 c = statuses-none (c .before .before .args .s .now) (c .before .before .args .layout) (other (c .before .before .args .layout) (c .match .keys2))
+returns-2 c =
+    let args = c .before .before .args in
+    statuses-none (args .s .now) (args .layout) (other (args .layout) (c .match .keys2))
 
 pub statuses-of-spec : {M : Type 1} → statement M
 statuses-of-spec =

@@ -44,14 +44,16 @@ loop-less c = search needs
 
 loop-again : tie.Need-loop-again Inv-loop μ-loop
 loop-again c =
+    let args = c .before .before .before .before .args in
     let l = c .before .before .loop in
-    (omega arith, words-more (c .before .before .before .before .args .s .now) (l .words) (l .i) (c .u32-at .result) (omega arith) (l .inv .1) (c .u32-at .ensures))
+    (omega arith, words-more (args .s .now) (l .words) (l .i) (c .u32-at .result) (omega arith) (l .inv .1) (c .u32-at .ensures))
 
 returns : tie.Need-returns Inv-loop μ-loop
 returns c =
+    let args = c .before .before .before .args in
     let l = c .before .loop in
-    let e : l .i ≡ c .before .before .before .args .count = omega arith in
-    l .inv .1 ∙ ap (λ (k : ℕ). padded (readAll (cells 28 4 k) (c .before .before .before .args .s .now))) e
+    let e : l .i ≡ args .count = omega arith in
+    l .inv .1 ∙ ap (λ (k : ℕ). padded (readAll (cells 28 4 k) (args .s .now))) e
 
 pub words-of-spec : {M : Type 1} → statement M
 words-of-spec =

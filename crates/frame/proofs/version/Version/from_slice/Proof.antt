@@ -13,15 +13,18 @@ word-of-requires : tie.Need-word-of-requires
 word-of-requires c κs = search needs
 
 returns : tie.Need-returns
-returns c = start-ended (c .before .before .before .args .s .now) (sym (c .before .word-of .ensures) ∙ c .if1 .taken)
+returns c =
+    let args = c .before .before .before .args in
+    start-ended (args .s .now) (sym (c .before .word-of .ensures) ∙ c .if1 .taken)
 
 from-u32-requires : tie.Need-from-u32-requires
 from-u32-requires c κs = search needs
 
 returns-2 : tie.Need-returns-2
 returns-2 c =
+    let args = c .before .before .before .before .args in
     let word = c .before .before .word-of in
-    ap Found (c .from-u32 .ensures) ∙ ap (λ (w : ℕ). Found (versionOf w)) (word .ensures) ∙ start-found (c .before .before .before .before .args .s .now) (λ e. c .before .if1 .left (word .ensures ∙ e))
+    ap Found (c .from-u32 .ensures) ∙ ap (λ (w : ℕ). Found (versionOf w)) (word .ensures) ∙ start-found (args .s .now) (λ e. c .before .if1 .left (word .ensures ∙ e))
 
 pub from-slice-spec : {M : Type 1} → statement M
 from-slice-spec = tie.close (tie.spec word-of-requires returns from-u32-requires returns-2)
