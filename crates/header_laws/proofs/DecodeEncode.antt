@@ -1,74 +1,46 @@
 -- Decode after encode gives the header back, for every header that encode takes.
 -- The bytes' numbers are the header's; word, flags, layout, sizes, fields and status words follow from them. Assumes nothing.
-use mathlib.Core.Path.{_≡_, refl, sym, ap, ap₂, _∙_}
-use mathlib.Core.Bool.{Bool, true, false, cond, not, _&&_}
-use mathlib.Core.List.{List, [], _∷_, _++_}
-use Prim.Native.Nat.{ℕ, _+_, _*_, _≤_, _<_}
+use mathlib.Core.Path.{_≡_, sym, ap, ap₂, _∙_}
+use mathlib.Core.Bool.{Bool, true, false, cond, not}
+use mathlib.Core.List.{List, _++_}
+use Prim.Native.Nat.{ℕ, _≤_}
 use native.Mathlib.Omega.{arith}
 use lib.Dec.{eqb}
-use lib.ListN.{length, getD, take, drop, length-append}
-use borrow.Author.Tests.{le-leb, eqb-true, eqb-false, not-true}
-use Rattle.le.specs.Le.{le}
+use lib.ListN.{length, take, drop, length-append}
+use borrow.Author.Tests.{eqb-false, not-true}
 use Rattle.layout.specs.Fields.{Field, readAll}
 use Rattle.layout.proofs.Bools.{both}
 use Rattle.layout.proofs.Full.{read-full, length-bytes}
 use Rattle.rules.specs.Rules.{validOf, flagsOf}
 use Rattle.frame.specs.Version.{ended, wordOf, revision, versionOf, InBits, wordFrom}
-use Rattle.frame.specs.Frame.{legacy, unit, declaredOf, layoutOf, sizesEnd, lacking, sizeFor, countOf, enough, sizeOf, headWith, headOf}
+use Rattle.frame.specs.Frame.{legacy, declaredOf, layoutOf, sizesEnd, sizeFor, countOf, enough, sizeOf, headWith, headOf}
 use Rattle.frame.specs.declared.version.Version.{Version}
-use Rattle.frame.specs.declared.RecordSize.{RecordSize}
 use Rattle.frame.specs.declared.Layout.{Layout}
-use Rattle.frame.specs.declared.Layout.the-variants.{Zero, One, Two, Three, Four, Five, Six, LegacyServer, LegacyGpu, Bad}
-use Rattle.frame.specs.declared.Head.{Head}
 use Rattle.frame.specs.declared.Head.the-variants.{Record}
 use Rattle.frame.proofs.Words.{word-there}
 use Rattle.frame.proofs.Heads.{head-record}
 use Rattle.frame.proofs.Sizes.{size-long, enough-there}
-use Rattle.header.specs.Layouts.{tableOf, typeFrom, statusesFrom, padded}
-use Rattle.header.specs.Header.{numbersOf, headerOf, decodedOf}
+use Rattle.header.specs.Layouts.{tableOf, padded}
+use Rattle.header.specs.Header.{headerOf, decodedOf}
 use Rattle.header.specs.Access.{layoutIn, countIn, headerSize, recordBytes}
 use Rattle.header.specs.declared.Header.{Header}
 use Rattle.header.specs.declared.HeaderType.{HeaderType}
 use Rattle.header.specs.declared.Answer.the-variants.{Done}
-use Rattle.header.specs.declared.Decoded.{Decoded}
 use Rattle.header_put.specs.Values.{valuesFor, valuesOf, headerBytes}
 use Rattle.header_put.specs.Fit.{fieldsFit}
-use Rattle.encode.specs.Encode.{readable, layoutNumber, encodable, encodedOf}
+use Rattle.encode.specs.Encode.{encodable, encodedOf}
 use Rattle.encode.specs.declared.Encoded.{Encoded}
 use Rattle.encode.proofs.Fitting.{in-bits, can-version, can-read, can-choose, can-fit, can-count}
 use Rattle.header_put.proofs.Tables.{tables-full, length-values}
 use Rattle.header_laws.specs.Typed.{Typed}
 use Rattle.header_laws.specs.Rounds.{cleared, decodedAs}
-use Rattle.header_laws.specs.Agree.{decodedRecord}
 use Rattle.header_laws.proofs.Version.{version-word, word-lt}
-use Rattle.header_laws.proofs.Numbers.{shapeFor, shape-read, isLegacy, legacy-layout, sizes-within, Parts, parts, sizesAt, partsFrom, parts-read, parts-values, below-values}
+use Rattle.header_laws.proofs.Layouts.{shapeFor, shape-read, isLegacy, legacy-layout, sizes-within, same-layout}
+use Rattle.header_laws.proofs.Numbers.{Parts, parts, headerWith, partsFrom, partsAt, parts-read, header-read, parts-values, below-values}
 use Rattle.header_laws.proofs.Agree.{record-decoded}
 use Rattle.header_laws.proofs.Encoded.{encoded-is}
 
--- ---- layouts by their number
-
-layoutAt : ℕ → Layout
-layoutAt n = getD (Zero ∷ One ∷ Two ∷ Three ∷ Four ∷ Five ∷ Six ∷ LegacyServer ∷ LegacyGpu ∷ []) n Bad
-
-layout-at : (l : Layout) → layoutAt (layoutNumber l) ≡ l
-unfolding layoutAt
-layout-at Zero = refl
-layout-at One = refl
-layout-at Two = refl
-layout-at Three = refl
-layout-at Four = refl
-layout-at Five = refl
-layout-at Six = refl
-layout-at LegacyServer = refl
-layout-at LegacyGpu = refl
-layout-at Bad = refl
-
-same-layout : (l k : Layout) → eqb (layoutNumber l) (layoutNumber k) ≡ true → l ≡ k
-same-layout l k e = sym (layout-at l) ∙ ap layoutAt (eqb-true (layoutNumber l) (layoutNumber k) e) ∙ layout-at k
-
-abbrev header : Version → RecordSize → HeaderType → List ℕ → Header
-header v z t ws = record { version = v; size = z; «header_type» = t; «completion_statuses» = ws }
-
+-- the size fields end past the first 8 bytes
 size-least : (b : Bool) {size : ℕ} → cond b 18 8 ≤ size → 8 ≤ size
 size-least true h = omega arith
 size-least false h = h
@@ -124,9 +96,8 @@ module _ (rules : List ℕ) (valid : validOf rules ≡ true) (h : Header) (can :
   room = simp length-append (omega (arith, length-bytes size (tableOf l n) (tables-full l n) (valuesOf h) (length-values h few)))
 
   -- and so are the parts
-  parts-are : parts (le 4 bs 0) (sizesAt (isLegacy l) bs) (typeFrom l (readAll (tableOf l n) bs)) (statusesFrom (readAll (tableOf l n) bs))
-      ≡ parts word (h .size) t (padded (take n ws))
-  parts-are = sym (parts-read bs t n) ∙ ap (partsFrom l) numbers ∙ parts-values word (h .size) ws t fit
+  parts-are : partsAt bs l (tableOf l n) ≡ parts word (h .size) t (padded (take n ws))
+  parts-are = parts-read bs t n ∙ ap (partsFrom l) numbers ∙ parts-values word (h .size) ws t fit
 
   layout-is : layoutOf word flags ≡ l
   layout-is = same-layout (layoutOf word flags) l (can-choose rules h can)
@@ -162,12 +133,12 @@ module _ (rules : List ℕ) (valid : validOf rules ≡ true) (h : Header) (can :
       ∙ head-record bs word flags (readable-word .0) (omega (arith, size-is, size-least (isLegacy l) (sizes-within t)))
 
   header-is : headerOf bs word flags ≡ cleared h
-  unfolding numbersOf
   header-is =
-      ap (λ (k : Layout). header (versionOf word) (sizesAt (legacy flags) bs) (typeFrom k (numbersOf bs k)) (statusesFrom (numbersOf bs k))) layout-is
-      ∙ ap (λ (s : List Field × ℕ). header (versionOf word) (sizesAt (legacy flags) bs) (typeFrom l (readAll (s .0) bs)) (statusesFrom (readAll (s .0) bs))) shape-is
-      ∙ ap (λ (b : Bool). header (versionOf word) (sizesAt b bs) (typeFrom l (readAll (tableOf l n) bs)) (statusesFrom (readAll (tableOf l n) bs))) legacy-is
-      ∙ ap₂ (λ (v : Version) (p : Parts). header v (p .size) (p .fields) (p .words)) version-is parts-are
+      header-read bs word flags
+      ∙ ap₂ headerWith version-is
+      (ap (λ (k : Layout). partsAt bs k (tableOf k (countOf bs))) layout-is
+      ∙ ap (λ (s : List Field × ℕ). partsAt bs l (s .0)) shape-is
+      ∙ parts-are)
 
   decoded-bytes : decodedOf rules bs ≡ decodedAs rules (cleared h)
   unfolding declaredOf

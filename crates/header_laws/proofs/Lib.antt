@@ -1,8 +1,11 @@
-pub mod Version
+pub mod Bits
 pub mod Tables
+pub mod Layouts
 pub mod Numbers
 pub mod Unread
-pub mod Agree
+pub mod Found
 pub mod Encoded
+pub mod Version
+pub mod Agree
 pub mod DecodeEncode
 pub mod EncodeDecode

@@ -1,17 +1,16 @@
 -- The numbers of a header that was read are those of its bytes with unread bits as 0, and its fields fit.
 -- Layout for layout; a number that two fields share by arithmetic, an unread one as a number put at its field. Assumes nothing.
-use mathlib.Core.Path.{_≡_, refl, sym, ap, ap₂, _∙_}
-use mathlib.Core.Bool.{Bool, true, false, cond, _&&_}
-use mathlib.Core.List.{List, [], _∷_}
-use Prim.Native.Nat.{ℕ, _+_, _*_, _-_, _/_, _%_, _^_, _≤_, _<_}
+use mathlib.Core.Path.{_≡_, refl, sym, ap, _∙_}
+use mathlib.Core.Bool.{true}
+use mathlib.Core.List.{List}
+use Prim.Native.Nat.{ℕ, _-_, _^_, _≤_, _<_}
 use native.Mathlib.Omega.{arith}
-use lib.Dec.{eqb}
 use lib.ListN.{length, take, set, replicate}
 use lib.Seq.{take-at}
 use borrow.Author.Tests.{lt-ltb, le-leb, eq-eqb}
 use Rattle.le.specs.Le.{le, put}
 use Rattle.le.proofs.Laws.{le-lt, length-put}
-use Rattle.layout.specs.Fields.{Field, Fits, readAll}
+use Rattle.layout.specs.Fields.{Field, readAll}
 use Rattle.layout.specs.Runs.{cells}
 use Rattle.layout.proofs.Full.{full-fits}
 use Rattle.frame.specs.Version.{revision}
@@ -19,24 +18,17 @@ use Rattle.frame.specs.Frame.{lacking, sizeFor, countOf}
 use Rattle.frame.specs.declared.Layout.{Layout}
 use Rattle.frame.specs.declared.Layout.the-variants.{Zero, One, Two, Three, Four, Five, Six, LegacyServer, LegacyGpu, Bad}
 use Rattle.frame.proofs.Sizes.{count-there}
-use Rattle.header.specs.Layouts.{tableOf, status, complete, statusWord, lowCount, completeHalf, countHalf, serverDie, padded, typeFrom, statusesFrom}
+use Rattle.header.specs.Layouts.{tableOf, status, lowCount, serverDie, padded}
 use Rattle.header.proofs.Statuses.{length-words}
 use Rattle.header_put.specs.Fit.{fieldsFit}
 use Rattle.header_put.specs.Values.{valuesFor}
 use Rattle.header_put.proofs.Tables.{tables-full}
 use Rattle.header_laws.specs.Typed.{Bytes}
 use Rattle.header_laws.specs.Rounds.{cleanHalf, unreadZero}
-use Rattle.header_laws.proofs.Version.{bit-eqb}
-use Rattle.header_laws.proofs.Tables.{fieldAt, read-put, put-bytes}
-use Rattle.header_laws.proofs.Numbers.{isLegacy, sizesAt}
-
--- ---- numbers that share a field
-
-status-back : (w : ℕ) → w < 256 ^ 4 → statusWord (status w) (complete w) ≡ w
-status-back w h = rw (bit-eqb (w / 2147483648 % 2) (omega arith)) (omega arith)
-
-half-back : (half : ℕ) → countHalf (lowCount half) (completeHalf half) ≡ cleanHalf half
-half-back half = rw (bit-eqb (half / 32768 % 2) (omega arith))
+use Rattle.header_laws.proofs.Bits.{status-back, half-back}
+use Rattle.header_laws.proofs.Tables.{pow-positive, fieldAt, read-put, put-bytes}
+use Rattle.header_laws.proofs.Layouts.{isLegacy}
+use Rattle.header_laws.proofs.Numbers.{Parts, sizesAt, partsAt}
 
 -- the status words, without the zeros past them
 words-back : (bs : List ℕ) → 28 ≤ length bs
@@ -48,7 +40,7 @@ words-back bs h =
 -- ---- the fields of a header that was read
 
 pub fits-read : (bs : List ℕ) (l : Layout) (n : ℕ)
-    → fieldsFit (typeFrom l (readAll (tableOf l n) bs)) (revision (le 4 bs 0)) (sizesAt (isLegacy l) bs .«extended_record_size») ≡ true
+    → fieldsFit (partsAt bs l (tableOf l n) .fields) (revision (le 4 bs 0)) (sizesAt (isLegacy l) bs .«extended_record_size») ≡ true
 unfolding readAll
 fits-read bs Zero n = refl
 fits-read bs One n = refl
@@ -58,44 +50,55 @@ fits-read bs Four n = refl
 fits-read bs Five n = lt-ltb (status (le 4 bs 24)) 2147483648 (omega arith)
 fits-read bs Six n = le-leb (lowCount (le 2 bs 26)) 127 (omega arith)
 fits-read bs LegacyServer n =
-    ap₂ (λ (a b : Bool). a && b) (lt-ltb (status (le 4 bs 28)) 2147483648 (omega arith)) (eq-eqb (serverDie (revision (le 4 bs 0))) (serverDie (revision (le 4 bs 0))) refl)
-fits-read bs LegacyGpu n = ap (λ (a : Bool). a && true) (lt-ltb (status (le 4 bs 28)) 2147483648 (omega arith))
+    let die = serverDie (revision (le 4 bs 0)) in
+    rw (lt-ltb (status (le 4 bs 28)) 2147483648 (omega arith)) (eq-eqb die die refl)
+fits-read bs LegacyGpu n = rw (lt-ltb (status (le 4 bs 28)) 2147483648 (omega arith))
 fits-read bs Bad n = refl
 
 -- ---- the numbers of a header that was read
 
-module _ (bs : List ℕ) (bytes : Bytes bs) where
-  -- the numbers with the `k`-th put to `x`
-  numbers-put : (l : Layout) (n : ℕ) (cs : List ℕ) (k x : ℕ) → sizeFor l n ≤ length cs → k < length (tableOf l n) → x < 256 ^ fieldAt (tableOf l n) k .width
-      → set (readAll (tableOf l n) cs) k x ≡ readAll (tableOf l n) (put (fieldAt (tableOf l n) k .width) cs (fieldAt (tableOf l n) k .at) x)
-  numbers-put l n cs k x room h b = sym (read-put (sizeFor l n) 0 (tableOf l n) cs k x (full-fits (tableOf l n) (sizeFor l n) (tables-full l n)) room h b)
+-- the `k`-th number of a layout changed is its field changed
+module _ (l : Layout) (n : ℕ) where
+  abbrev at : ℕ → Field
+  at k = fieldAt (tableOf l n) k
 
-  pub values-read : (l : Layout) → lacking < sizeFor l (countOf bs) → sizeFor l (countOf bs) ≤ length bs
-      → valuesFor (le 4 bs 0) (sizesAt (isLegacy l) bs) (typeFrom l (readAll (tableOf l (countOf bs)) bs)) (statusesFrom (readAll (tableOf l (countOf bs)) bs))
-      ≡ readAll (tableOf l (countOf bs)) (unreadZero l bs)
-  unfolding readAll
-  values-read Zero h room = refl
-  values-read One h room = refl
-  values-read Two h room = refl
-  values-read Three h room = rw (status-back (le 4 bs 24) (le-lt bs bytes 24 4))
-  values-read Four h room = refl
-  values-read Five h room = rw (status-back (le 4 bs 24) (le-lt bs bytes 24 4))
-  values-read Six h room =
-      rw (half-back (le 2 bs 26), words-back bs (omega arith))
-      (numbers-put Six (countOf bs) bs 8 (cleanHalf (le 2 bs 26)) room (omega arith) (omega arith))
-  values-read LegacyServer h room =
-      rw (status-back (le 4 bs 28) (le-lt bs bytes 28 4))
-      (ap (λ (vs : List ℕ). set vs 7 0) (numbers-put LegacyServer 0 bs 4 0 room (omega arith) (omega arith))
-      ∙ numbers-put LegacyServer 0 (put 2 bs 18 0) 7 0 (omega (arith, length-put 2 bs 18 0)) (omega arith) (omega arith))
-  values-read LegacyGpu h room =
-      rw (status-back (le 4 bs 28) (le-lt bs bytes 28 4))
-      (ap (λ (vs : List ℕ). set vs 6 0) (numbers-put LegacyGpu 0 bs 4 0 room (omega arith) (omega arith))
-      ∙ numbers-put LegacyGpu 0 (put 2 bs 18 0) 6 0 (omega (arith, length-put 2 bs 18 0)) (omega arith) (omega arith))
-  values-read Bad h room = absurd (omega arith)
+  read-put-at : (bs : List ℕ) (k x : ℕ) → sizeFor l n ≤ length bs → k < length (tableOf l n) → x < 256 ^ at k .width
+      → set (readAll (tableOf l n) bs) k x ≡ readAll (tableOf l n) (put (at k .width) bs (at k .at) x)
+  read-put-at bs k x room h b =
+      sym (read-put (sizeFor l n) 0 (tableOf l n) bs k x (full-fits (tableOf l n) (sizeFor l n) (tables-full l n)) room h b)
 
--- ---- what a number put keeps, the zeroing of unread bits keeps
+  -- two of them changed to 0
+  read-zero-two : (bs : List ℕ) (j k : ℕ) → sizeFor l n ≤ length bs → j < length (tableOf l n) → k < length (tableOf l n)
+      → set (set (readAll (tableOf l n) bs) j 0) k 0 ≡ readAll (tableOf l n) (put (at k .width) (put (at j .width) bs (at j .at) 0) (at k .at) 0)
+  read-zero-two bs j k room h g =
+      ap (λ (vs : List ℕ). set vs k 0) (read-put-at bs j 0 room h (pow-positive (at j .width)))
+      ∙ read-put-at (put (at j .width) bs (at j .at) 0) k 0 (omega (arith, length-put (at j .width) bs (at j .at) 0)) g (pow-positive (at k .width))
 
-pub unread-keeps : (P : List ℕ → Type 0) → ((w at x : ℕ) (cs : List ℕ) → P cs → P (put w cs at x)) → (l : Layout) (bs : List ℕ) → P bs → P (unreadZero l bs)
+abbrev valuesIn : Parts → List ℕ
+valuesIn p = valuesFor (p .word) (p .size) (p .fields) (p .words)
+
+pub values-read : (bs : List ℕ) → Bytes bs → (l : Layout) → lacking < sizeFor l (countOf bs) → sizeFor l (countOf bs) ≤ length bs
+    → valuesIn (partsAt bs l (tableOf l (countOf bs))) ≡ readAll (tableOf l (countOf bs)) (unreadZero l bs)
+unfolding readAll
+values-read bs bytes Zero h room = refl
+values-read bs bytes One h room = refl
+values-read bs bytes Two h room = refl
+values-read bs bytes Three h room = rw (status-back (le 4 bs 24) (le-lt bs bytes 24 4))
+values-read bs bytes Four h room = refl
+values-read bs bytes Five h room = rw (status-back (le 4 bs 24) (le-lt bs bytes 24 4))
+values-read bs bytes Six h room =
+    rw (half-back (le 2 bs 26), words-back bs (omega arith))
+    (read-put-at Six (countOf bs) bs 8 (cleanHalf (le 2 bs 26)) room (omega arith) (omega arith))
+values-read bs bytes LegacyServer h room =
+    rw (status-back (le 4 bs 28) (le-lt bs bytes 28 4)) (read-zero-two LegacyServer 0 bs 4 7 room (omega arith) (omega arith))
+values-read bs bytes LegacyGpu h room =
+    rw (status-back (le 4 bs 28) (le-lt bs bytes 28 4)) (read-zero-two LegacyGpu 0 bs 4 6 room (omega arith) (omega arith))
+values-read bs bytes Bad h room = absurd (omega arith)
+
+-- ---- bytes with unread bits as 0
+
+-- what a number put keeps
+unread-keeps : (P : List ℕ → Type 0) → ((w at x : ℕ) (cs : List ℕ) → P cs → P (put w cs at x)) → (l : Layout) (bs : List ℕ) → P bs → P (unreadZero l bs)
 unread-keeps P keep Zero bs p = p
 unread-keeps P keep One bs p = p
 unread-keeps P keep Two bs p = p
@@ -106,3 +109,8 @@ unread-keeps P keep Six bs p = keep 2 26 (cleanHalf (le 2 bs 26)) bs p
 unread-keeps P keep LegacyServer bs p = keep 3 25 0 (put 2 bs 18 0) (keep 2 18 0 bs p)
 unread-keeps P keep LegacyGpu bs p = keep 4 24 0 (put 2 bs 18 0) (keep 2 18 0 bs p)
 unread-keeps P keep Bad bs p = p
+
+-- they are bytes, and as many
+pub unread-bytes : (l : Layout) (bs : List ℕ) → Bytes bs → Bytes (unreadZero l bs) × (length (unreadZero l bs) ≡ length bs)
+unread-bytes l bs bytes =
+    unread-keeps (λ (cs : List ℕ). Bytes cs × (length cs ≡ length bs)) (λ w at x cs q. (put-bytes w cs at x (q .0), length-put w cs at x ∙ q .1)) l bs (bytes, refl)

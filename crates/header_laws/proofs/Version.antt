@@ -1,29 +1,12 @@
 -- The fields of a version word make the word, and the word that some fields make has those fields.
--- The word is peeled field by field from its lowest bit on. Assumes nothing.
-use mathlib.Core.Path.{_≡_, refl, sym, ap, _∙_}
-use mathlib.Core.Bool.{Bool, true, false}
-use Prim.Native.Nat.{ℕ, zero, suc, _+_, _*_, _/_, _%_, _^_, _≤_, _<_}
+-- A word is peeled field by field from its lowest bit on; a sum's fields are its terms. Assumes nothing.
+use mathlib.Core.Path.{_≡_, sym, ap, _∙_}
+use Prim.Native.Nat.{ℕ, _+_, _*_, _/_, _%_, _^_, _<_}
 use native.Mathlib.Nat.{div-div-eq-div-mul, div-add-mod'}
 use native.Mathlib.Omega.{arith}
-use lib.Dec.{eqb}
-use borrow.Author.Tests.{eq-eqb, ne-eqb}
 use Rattle.frame.specs.Version.{versionOf, InBits, bit, wordFrom}
 use Rattle.frame.specs.declared.version.Version.{Version}
-
--- ---- a bit as a yes/no
-
-pub bit-eqb : (x : ℕ) → x < 2 → bit (eqb x 1) ≡ x
-bit-eqb zero h = refl
-bit-eqb (suc zero) h = refl
-bit-eqb (suc (suc x)) h = absurd (omega arith)
-
-pub eqb-bit : (b : Bool) (x : ℕ) → x ≡ bit b → eqb x 1 ≡ b
-eqb-bit true x e = eq-eqb x 1 e
-eqb-bit false x e = ap (λ (y : ℕ). eqb y 1) e
-
-pub bit-le : (b : Bool) → bit b ≤ 1
-bit-le true = omega arith
-bit-le false = omega arith
+use Rattle.header_laws.proofs.Bits.{bit-eqb, eqb-bit, bit-le}
 
 -- ---- the word of a word's fields
 
@@ -44,32 +27,32 @@ word-version word h =
 
 -- ---- the fields of the word of some fields
 
--- the fields of a sum, each below its number of values
-record Parts (word r t p y c d : ℕ) : Type 0 where
-  revision : word % 256 ≡ r
-  header : word / 256 % 16 ≡ t
-  product : word / 4096 % 4096 ≡ p
-  kind : word / 16777216 % 64 ≡ y
-  cldic : word / 1073741824 % 2 ≡ c
-  consumed : word / 2147483648 % 2 ≡ d
+-- the terms of the word are its fields
+record Apart (word : ℕ) (v : Version) : Type 0 where
+  revision : word % 256 ≡ v .revision
+  header : word / 256 % 16 ≡ v .«header_type»
+  product : word / 4096 % 4096 ≡ v .«product_id»
+  kind : word / 16777216 % 64 ≡ v .«record_type»
+  cldic : word / 1073741824 % 2 ≡ bit (v .cldic)
+  consumed : word / 2147483648 % 2 ≡ bit (v .consumed)
 
-apart : (word r t p y c d : ℕ) → word ≡ r + t * 256 + p * 4096 + y * 16777216 + c * 1073741824 + d * 2147483648
-    → r < 256 → t < 16 → p < 4096 → y < 64 → c ≤ 1 → d ≤ 1 → Parts word r t p y c d
-apart word r t p y c d e hr ht hp hy hc hd = omega arith
+module _ (v : Version) (b : InBits v) where
+  abbrev word : ℕ
+  word = wordFrom v
 
-pub word-lt : (v : Version) → InBits v → wordFrom v < 2 ^ 32
-word-lt v b = omega (arith, b, bit-le (v .cldic), bit-le (v .consumed))
+  apart : Apart word v
+  apart = omega (arith, bit-le (v .cldic), bit-le (v .consumed))
 
-pub version-word : (v : Version) → InBits v → versionOf (wordFrom v) ≡ v
-version-word v b =
-    let word = wordFrom v in
-    let parts = apart word (v .revision) (v .«header_type») (v .«product_id») (v .«record_type») (bit (v .cldic)) (bit (v .consumed)) refl
-    (b .revision) (b .header) (b .product) (b .kind) (bit-le (v .cldic)) (bit-le (v .consumed)) in
-    rw (
-      parts .revision,
-      parts .header,
-      parts .product,
-      parts .kind,
-      eqb-bit (v .cldic) (word / 1073741824 % 2) (parts .cldic),
-      eqb-bit (v .consumed) (word / 2147483648 % 2) (parts .consumed),
-    )
+  pub version-word : versionOf (wordFrom v) ≡ v
+  version-word =
+      rw (
+        apart .revision,
+        apart .header,
+        apart .product,
+        apart .kind,
+        eqb-bit (v .cldic) (word / 1073741824 % 2) (apart .cldic),
+        eqb-bit (v .consumed) (word / 2147483648 % 2) (apart .consumed),
+      )
+
+  pub word-lt : wordFrom v < 2 ^ 32
+  word-lt = omega (arith, bit-le (v .cldic), bit-le (v .consumed))

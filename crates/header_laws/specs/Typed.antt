@@ -1,4 +1,4 @@
--- What the Rust types say of a header: here numbers have no bound of their own.
+-- What the Rust types say of a header and of a slice of bytes; the numbers of a definition have no bound of their own.
 use mathlib.Core.Path.{_≡_}
 use mathlib.Core.List.{List}
 use Prim.Native.Nat.{ℕ, _^_, _<_}
@@ -23,7 +23,7 @@ U64 x = x < 2 ^ 64
 
 -- ---- a header
 
--- the fields of a layout
+-- the fields of a layout, in their order; a yes/no says nothing
 abbrev pub TypedFields : HeaderType → Type 0
 TypedFields Type0 = Unit {0}
 TypedFields Type1 = Unit {0}
@@ -35,9 +35,10 @@ TypedFields (Type6 t a r d k n c) = U64 t × U32 a × U32 r × U8 d × U8 k × U
 TypedFields (Type0LegacyServer t a r d k s c) = U64 t × U32 a × U32 r × U8 d × U8 k × U32 s
 TypedFields (Type0LegacyGpu t a r s c) = U64 t × U32 a × U32 r × U32 s
 
+-- all of a header; there are 127 status words
 pub record Typed (h : Header) : Type 0 where
   pub revision : U32 (h .version .revision)
-  pub type-number : U16 (h .version .«header_type»)
+  pub header : U16 (h .version .«header_type»)
   pub product : U32 (h .version .«product_id»)
   pub kind : U8 (h .version .«record_type»)
   pub size : U16 (h .size .«record_size»)
@@ -46,6 +47,7 @@ pub record Typed (h : Header) : Type 0 where
   pub count : length (h .«completion_statuses») ≡ 127
   pub words : (k : ℕ) → U32 (getD (h .«completion_statuses») k 0)
 
--- a slice of bytes
+-- ---- a slice of bytes
+
 abbrev pub Bytes : List ℕ → Type 0
 Bytes bs = (k : ℕ) → U8 (getD bs k 0)

@@ -1,0 +1,4 @@
+pub mod Checked
+pub mod Kept
+pub mod Packed
+pub mod Table

@@ -1,0 +1,4 @@
+pub mod Answers
+pub mod Normal
+pub mod Sections
+pub mod Steps

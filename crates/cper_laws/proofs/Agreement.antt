@@ -1,0 +1,67 @@
+-- The section table, the call on one section and the normal form agree on what is kept.
+-- Each is a function of the same list; by induction over it. Assumes nothing.
+use mathlib.Core.Path.{_≡_, refl, sym, ap, _∙_}
+use mathlib.Core.List.{List, [], _∷_, _++_}
+use mathlib.Core.Bool.{true}
+use Prim.Native.Nat.{ℕ, zero, suc, _+_, _*_, _/_, _≤_, _<_}
+use native.Mathlib.Omega.{arith}
+use lib.ListN.{length, getD, drop}
+use lib.Seq.{take-all}
+use Rattle.cper_record.specs.Record.{isCper}
+use Rattle.cper.specs.Answers.{done, tooLong, notCper, mostBytes}
+use Rattle.cper.specs.Sections.{Section, keptOf, rowSize, rowsOf, listedIn, sectionsOf, placeIn, placeOf, partAt}
+use Rattle.cper.specs.Normal.{sizeOf, normalOf, mostOutput}
+use Rattle.cper.proofs.Checked.{a-cper, header-whole}
+use Rattle.cper_laws.specs.Again.{bodyList}
+use Rattle.cper_laws.proofs.KeptAgain.{normal-is-cper, same-bodies}
+
+-- ---- the table and one section
+
+row-place : (ks : List Section) (rest : List ℕ) (row : ℕ) → row < length ks
+    → placeIn ks row ≡ (done, (getD (rowsOf ks ++ rest) (rowSize * row + 1) 0, getD (rowsOf ks ++ rest) (rowSize * row + 2) 0))
+unfolding placeIn rowsOf
+row-place [] rest row h = absurd (omega arith)
+row-place (k ∷ ks) rest zero h = refl
+row-place (k ∷ ks) rest (suc row) h =
+    let offset : rowSize * suc row + 1 ≡ suc (suc (suc (rowSize * row + 1))) = omega arith in
+    let size : rowSize * suc row + 2 ≡ suc (suc (suc (rowSize * row + 2))) = omega arith in
+    rw (offset, size) (row-place ks rest row (omega arith))
+
+module _ (cper : List ℕ) (short : length cper ≤ mostBytes) (is : isCper cper ≡ true) where
+  place-is : (row : ℕ) → placeOf cper row ≡ placeIn (keptOf cper) row
+  unfolding placeOf
+  place-is row = sym (a-cper cper (tooLong, (0, 0)) (notCper, (0, 0)) (placeIn (keptOf cper) row) short true (sym is) refl)
+
+  -- a row of a table with room for all is what the call on that section tells
+  pub table-agrees : (table : List ℕ) (row : ℕ) → length (keptOf cper) ≤ length table / rowSize → row < length (keptOf cper)
+      → (let after = sectionsOf cper table .0 in placeOf cper row ≡ (done, (getD after (rowSize * row + 1) 0, getD after (rowSize * row + 2) 0)))
+  unfolding sectionsOf listedIn
+  table-agrees table row room h =
+      let ks = keptOf cper in
+      let all = take-all (length table / rowSize) ks room in
+      let after : sectionsOf cper table .0 ≡ rowsOf ks ++ drop (rowSize * length ks) table =
+      ap (λ (t : List ℕ × (ℕ × ℕ)). t .0) (sym (a-cper cper (table, (tooLong, 0)) (table, (notCper, 0)) (listedIn table ks) short true (sym is) refl))
+      ∙ ap (λ (written : List Section). rowsOf written ++ drop (rowSize * length written) table) all in
+      place-is row ∙ row-place ks (drop (rowSize * length ks) table) row h
+      ∙ ap (λ (l : List ℕ). (done, (getD l (rowSize * row + 1) 0, getD l (rowSize * row + 2) 0))) (sym after)
+
+-- ---- one section and the normal form
+
+row-body : (cper : List ℕ) (ks : List Section) (row : ℕ) → partAt cper (placeIn ks row) ≡ getD (bodyList cper ks) row []
+unfolding placeIn bodyList
+row-body cper [] row = refl
+row-body cper (k ∷ ks) zero = refl
+row-body cper (k ∷ ks) (suc row) = row-body cper ks row
+
+-- the call on one section gives the same part of the normal form as of the CPER, for every row number
+pub section-agrees : (cper : List ℕ) → ((k : ℕ) → getD cper k 0 < 256) → length cper ≤ mostBytes → isCper cper ≡ true
+    → sizeOf (keptOf cper) ≤ mostOutput → length (normalOf cper) ≤ mostBytes
+    → (row : ℕ) → partAt (normalOf cper) (placeOf (normalOf cper) row) ≡ partAt cper (placeOf cper row)
+section-agrees cper bytes short is small fits row =
+    let new = normalOf cper in
+    let whole = header-whole cper is in
+    ap (partAt new) (place-is new fits (normal-is-cper cper bytes whole small) row)
+    ∙ row-body new (keptOf new) row
+    ∙ ap (λ (bodies : List (List ℕ)). getD bodies row []) (same-bodies cper bytes whole small)
+    ∙ sym (row-body cper (keptOf cper) row)
+    ∙ ap (partAt cper) (sym (place-is cper short is row))

@@ -1,0 +1,10 @@
+pub mod Agreement
+pub mod DescriptorAgain
+pub mod HeaderAgain
+pub mod Idempotent
+pub mod KeptAgain
+pub mod Length
+pub mod Over
+pub mod Reading
+pub mod SectionsAgain
+pub mod SeverityAgain

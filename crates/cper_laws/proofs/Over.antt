@@ -1,0 +1,24 @@
+-- A normal form over 4,294,967,295 bytes is refused with 10, and nothing is written.
+-- By the definition. Assumes nothing.
+use mathlib.Core.Path.{_≡_, refl, sym, _∙_}
+use mathlib.Core.List.{List}
+use mathlib.Core.Bool.{Bool, true, false, cond, _&&_}
+use Prim.Native.Nat.{ℕ, _≤_, _<_}
+use lib.Dec.{leb}
+use lib.ListN.{length}
+use borrow.Author.Tests.{lt-leb}
+use Rattle.cper_record.specs.Record.{isCper}
+use Rattle.cper.specs.Answers.{tooLong, notCper, outputShort, mostBytes}
+use Rattle.cper.specs.Sections.{keptOf}
+use Rattle.cper.specs.Normal.{sizeOf, mostOutput, packedIn, normalisedOf}
+use Rattle.cper.proofs.Checked.{a-cper}
+
+neither-way : {A : Type 0} (t : Bool) (x y : A) → cond (t && false) x y ≡ y
+neither-way true x y = refl
+neither-way false x y = refl
+
+pub over-refused : (cper out : List ℕ) → length cper ≤ mostBytes → isCper cper ≡ true → mostOutput < sizeOf (keptOf cper) → normalisedOf cper out ≡ (out, (outputShort, 0))
+unfolding normalisedOf packedIn
+over-refused cper out short is over =
+    sym (a-cper cper (out, (tooLong, 0)) (out, (notCper, 0)) (packedIn cper out) short true (sym is) refl)
+    ∙ rw (lt-leb (sizeOf (keptOf cper)) mostOutput over) (neither-way (leb (sizeOf (keptOf cper)) (length out)) _ (out, (outputShort, 0)))

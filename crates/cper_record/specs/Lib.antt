@@ -1,0 +1,4 @@
+pub mod Descriptor
+pub mod Fields
+pub mod Header
+pub mod Record
