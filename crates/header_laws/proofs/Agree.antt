@@ -1,7 +1,7 @@
 -- `frame` and `decode` judge a header alike; the size and the declared bytes that a decode tells are those of its header.
 -- From what is known where a decode is done; a refusal's answer tells the refusal. Assumes nothing.
 use mathlib.Core.Path.{_≡_, refl, sym, ap, _∙_}
-use mathlib.Core.Bool.{true}
+use mathlib.Core.Bool.{Bool, true, cond}
 use mathlib.Core.List.{List}
 use mathlib.Core.Logic.{_↔_}
 use Prim.Native.Nat.{ℕ, _≤_, _<_}
@@ -9,12 +9,12 @@ use lib.ListN.{length}
 use Rattle.rules.specs.Rules.{validOf, flagsOf}
 use Rattle.layout.specs.Fields.{Field, readAll}
 use Rattle.frame.specs.Version.{wordOf}
-use Rattle.frame.specs.Frame.{lacking, declaredOf, layoutOf, countOf, sizeFor, headOf}
+use Rattle.frame.specs.Frame.{lacking, declaredOf, layoutOf, countOf, sizeFor, headOf, numberOf as headNumber}
 use Rattle.frame.specs.declared.Layout.{Layout}
 use Rattle.frame.specs.declared.Head.{Head}
 use Rattle.frame.specs.declared.Head.the-variants.{Record}
 use Rattle.header.specs.Layouts.{tableOf, typeFrom}
-use Rattle.header.specs.Header.{numbersOf, decodedOf}
+use Rattle.header.specs.Header.{numbersOf, refusal, decodedFrom, decodedOf, numberOf}
 use Rattle.header.specs.Access.{countIn, headerSize, recordBytes}
 use Rattle.header.specs.declared.Answer.{Answer}
 use Rattle.header.specs.declared.Decoded.{Decoded}
@@ -82,3 +82,18 @@ module _ (rules bs : List ℕ) where
     pub declared-decoded : d .declared ≡ recordBytes (d .header) (d .flags)
     unfolding declaredOf
     declared-decoded = rw (done-found rules bs done .decoded)
+
+-- ---- by document 01's numbers
+
+number-from : (bs : List ℕ) (h : Head) → numberOf (decodedFrom bs h .answer) ≡ headNumber h
+unfolding decodedFrom
+number-from bs Head.Ended = refl
+number-from bs Head.BadHeader = refl
+number-from bs (Head.BadType t) = refl
+number-from bs (Record word flags declared size) = refl
+
+-- one try and decode answer with the same number
+pub numbers-agree : (rules bs : List ℕ) → validOf rules ≡ true → numberOf (decodedOf rules bs .answer) ≡ headNumber (headOf rules bs)
+unfolding decodedOf
+numbers-agree rules bs valid =
+    ap (λ (good : Bool). numberOf (cond good (decodedFrom bs (headOf rules bs)) (refusal BadRules) .answer)) valid ∙ number-from bs (headOf rules bs)
