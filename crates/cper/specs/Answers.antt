@@ -32,25 +32,25 @@ abbrev pub none : ℕ
 none = 255
 
 -- of the section table: the number and the rows
-abbrev pub ofListed : Listed → ℕ × ℕ
-ofListed (listed.Done rows) = (done, rows)
-ofListed listed.TooLong = (tooLong, 0)
-ofListed listed.NotCper = (notCper, 0)
-ofListed (listed.Full rows) = (sectionsFull, rows)
+abbrev pub listedNumbers : Listed → ℕ × ℕ
+listedNumbers (listed.Done rows) = (done, rows)
+listedNumbers listed.TooLong = (tooLong, 0)
+listedNumbers listed.NotCper = (notCper, 0)
+listedNumbers (listed.Full rows) = (sectionsFull, rows)
 
 -- of one section: the number, the body's offset and its length
-abbrev pub ofLocated : Located → ℕ × (ℕ × ℕ)
-ofLocated (located.At offset length) = (done, (offset, length))
-ofLocated located.TooLong = (tooLong, (0, 0))
-ofLocated located.NotCper = (notCper, (0, 0))
-ofLocated located.None = (none, (0, 0))
+abbrev pub locatedNumbers : Located → ℕ × (ℕ × ℕ)
+locatedNumbers (located.At offset length) = (done, (offset, length))
+locatedNumbers located.TooLong = (tooLong, (0, 0))
+locatedNumbers located.NotCper = (notCper, (0, 0))
+locatedNumbers located.None = (none, (0, 0))
 
 -- of the normal form: the number and the length written
-abbrev pub ofNormalised : Normalised → ℕ × ℕ
-ofNormalised (normalised.Done size) = (done, size)
-ofNormalised normalised.TooLong = (tooLong, 0)
-ofNormalised normalised.NotCper = (notCper, 0)
-ofNormalised normalised.OutputShort = (outputShort, 0)
+abbrev pub normalisedNumbers : Normalised → ℕ × ℕ
+normalisedNumbers (normalised.Done size) = (done, size)
+normalisedNumbers normalised.TooLong = (tooLong, 0)
+normalisedNumbers normalised.NotCper = (notCper, 0)
+normalisedNumbers normalised.OutputShort = (outputShort, 0)
 
 -- ---- the checks that come first
 

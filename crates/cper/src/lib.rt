@@ -10,7 +10,7 @@ ghost use lib.ListN.{length, drop};
 ghost use lib.Seq.{sets};
 ghost use Rattle.cper_record.specs.Record.{headerSize};
 ghost use Rattle.cper_record.specs.Header.{headerOf, counted, normalHeader, headerBytes};
-ghost use Rattle.cper.specs.Answers.{mostBytes, ofListed, ofLocated, ofNormalised};
+ghost use Rattle.cper.specs.Answers.{mostBytes, listedNumbers, locatedNumbers, normalisedNumbers};
 ghost use Rattle.cper.specs.Sections.{descriptorAt, keptOf, rowSize, listedIn, sectionsOf, placeIn, placeOf, partAt};
 ghost use Rattle.cper.specs.Normal.{bodiesAt, packedIn, normalisedOf};
 ghost use Rattle.cper.specs.Steps.{bodyAt, section, spanOf, Measured, Placed, withSection, pack, Roomy};
@@ -103,6 +103,7 @@ fn body_at(cper: &[u8], index: usize) -> Body
     }
 }
 
+// Writes a section's row.
 fn put_row(table: &mut [u32], row: usize, index: u32, offset: u32, size: u32)
     requires { ⌜ rowSize * row + rowSize ≤ length (now table) ⌝ }
     ensures { λ _. ⌜ now (table .exit) ≡ sets (now (table .entry)) (rowSize * row) (index ∷ offset ∷ size ∷ []) ⌝ }
@@ -116,7 +117,7 @@ fn put_row(table: &mut [u32], row: usize, index: u32, offset: u32, size: u32)
 // Lists the kept sections of a CPER while rows are free.
 fn list_kept(cper: &[u8], table: &mut [u32]) -> Listed
     requires { ⌜ headerSize ≤ length (now cper) ⌝ }
-    ensures { λ r. ⌜ (now (table .exit), ofListed r) ≡ listedIn (now (table .entry)) (keptOf (now (cper .entry))) ⌝ }
+    ensures { λ r. ⌜ (now (table .exit), listedNumbers r) ≡ listedIn (now (table .entry)) (keptOf (now (cper .entry))) ⌝ }
 {
     let count = header::section_count(cper) as usize;
     let room = table.len() / NUMBERS_IN_ROW;
@@ -138,7 +139,7 @@ fn list_kept(cper: &[u8], table: &mut [u32]) -> Listed
 
 // The kept sections, as rows of descriptor index, body offset and body length.
 pub fn sections(cper: &[u8], table: &mut [u32]) -> Listed
-    ensures { λ r. ⌜ (now (table .exit), ofListed r) ≡ sectionsOf (now (cper .entry)) (now (table .entry)) ⌝ }
+    ensures { λ r. ⌜ (now (table .exit), listedNumbers r) ≡ sectionsOf (now (cper .entry)) (now (table .entry)) ⌝ }
 {
     if MOST_BYTES < cper.len() {
         return Listed::TooLong;
@@ -152,7 +153,7 @@ pub fn sections(cper: &[u8], table: &mut [u32]) -> Listed
 // Finds the kept section of a CPER with a row number.
 fn find_kept(cper: &[u8], row: u32) -> Located
     requires { ⌜ headerSize ≤ length (now cper) ⌝ }
-    ensures { λ r. ⌜ ofLocated r ≡ placeIn (keptOf (now (cper .entry))) row ⌝ }
+    ensures { λ r. ⌜ locatedNumbers r ≡ placeIn (keptOf (now (cper .entry))) row ⌝ }
 {
     let count = header::section_count(cper) as usize;
     let mut left = row;
@@ -175,7 +176,7 @@ fn find_kept(cper: &[u8], row: u32) -> Located
 
 // Where the body of one kept section is; rows count the kept sections from 0.
 pub fn section_at(cper: &[u8], row: u32) -> Located
-    ensures { λ r. ⌜ ofLocated r ≡ placeOf (now (cper .entry)) row ⌝ }
+    ensures { λ r. ⌜ locatedNumbers r ≡ placeOf (now (cper .entry)) row ⌝ }
 {
     if MOST_BYTES < cper.len() {
         return Located::TooLong;
@@ -186,8 +187,9 @@ pub fn section_at(cper: &[u8], row: u32) -> Located
     find_kept(cper, row)
 }
 
+// The part of the input that an answer names; none on a refusal.
 fn span_of(place: Located) -> Span
-    ensures { λ r. ⌜ r ≡ spanOf (ofLocated place) ⌝ }
+    ensures { λ r. ⌜ r ≡ spanOf (locatedNumbers place) ⌝ }
 {
     match place {
         Located::At { offset, length } => Span {
@@ -277,7 +279,7 @@ fn write_sections(cper: &[u8], out: &mut [u8], kept: usize)
 // Writes the normal form, where its length fits the output and 32 bits.
 fn pack_kept(cper: &[u8], out: &mut [u8]) -> Normalised
     requires { ⌜ (headerSize ≤ length (now cper)) × (length (now cper) ≤ mostBytes) ⌝ }
-    ensures { λ r. ⌜ (now (out .exit), ofNormalised r) ≡ packedIn (now (cper .entry)) (now (out .entry)) ⌝ }
+    ensures { λ r. ⌜ (now (out .exit), normalisedNumbers r) ≡ packedIn (now (cper .entry)) (now (out .entry)) ⌝ }
 {
     let sum = measure(cper);
     let kept = sum.kept;
@@ -295,7 +297,7 @@ fn pack_kept(cper: &[u8], out: &mut [u8]) -> Normalised
 
 // Writes the normal form: the kept sections, packed, with all that is unknown or absent zero.
 pub fn normalise(cper: &[u8], out: &mut [u8]) -> Normalised
-    ensures { λ r. ⌜ (now (out .exit), ofNormalised r) ≡ normalisedOf (now (cper .entry)) (now (out .entry)) ⌝ }
+    ensures { λ r. ⌜ (now (out .exit), normalisedNumbers r) ≡ normalisedOf (now (cper .entry)) (now (out .entry)) ⌝ }
 {
     if MOST_BYTES < cper.len() {
         return Normalised::TooLong;

@@ -46,7 +46,7 @@ returns c =
     let l = c .before .before .before .before .loop in
     let b = c .before .before .body-at .result in
     let count = c .before .before .before .before .before .section-count .result in
-    now (section (l .index) b) (keptFrom (c .before .before .before .before .before .before .before .args .cper .now) (l .index + 1) (count - (l .index + 1))) (l .left) (c .if2 .taken)
+    now (section (l .index) b) (keptFrom (c .before .before .before .before .before .before .before .args .cper .now) (l .index + 1) (count - (l .index + 1))) (l .left) (omega arith)
     ∙ ap (λ (ks : List Section). placeIn ks (l .left)) (sym (kept-next (c .before .before .before .before .before .before .before .args .cper .now) (l .index) count (c .before .before .before .loop-test .taken) b (c .before .before .body-at .ensures) (c .before .if1 .taken)))
     ∙ l .inv .3
 

@@ -1,7 +1,7 @@
 -- `span_of` gives a place's part of the input, by cases on the answer.
 -- Assumes nothing.
 use mathlib.Core.Path.{sym, ap}
-use Rattle.cper.specs.Answers.{ofLocated}
+use Rattle.cper.specs.Answers.{locatedNumbers}
 use Rattle.cper.specs.Steps.{spanOf}
 use Rattle.cper.specs.declared.Located.{Located}
 use borrow.Author.Needs.{needs}
@@ -33,16 +33,16 @@ enum-told-3 : tie.Need-enum-told-3
 enum-told-3 c = search needs
 
 returns : tie.Need-returns
-returns c = sym (ap (λ (p : Located). spanOf (ofLocated p)) (c .before .place .given .1))
+returns c = sym (ap (λ (p : Located). spanOf (locatedNumbers p)) (c .before .place .given .1))
 
 returns-2 : tie.Need-returns-2
-returns-2 c = sym (ap (λ (p : Located). spanOf (ofLocated p)) (c .enum-told .given .1))
+returns-2 c = sym (ap (λ (p : Located). spanOf (locatedNumbers p)) (c .enum-told .given .1))
 
 returns-3 : tie.Need-returns-3
-returns-3 c = sym (ap (λ (p : Located). spanOf (ofLocated p)) (c .enum-told2 .given .1))
+returns-3 c = sym (ap (λ (p : Located). spanOf (locatedNumbers p)) (c .enum-told2 .given .1))
 
 returns-4 : tie.Need-returns-4
-returns-4 c = sym (ap (λ (p : Located). spanOf (ofLocated p)) (c .enum-told3 .given .1))
+returns-4 c = sym (ap (λ (p : Located). spanOf (locatedNumbers p)) (c .enum-told3 .given .1))
 
 pub span-of-spec : {M : Type 1} → statement M
 span-of-spec =
