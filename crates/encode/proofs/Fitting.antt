@@ -16,7 +16,7 @@ use Rattle.header.specs.Access.{layoutIn, countIn}
 use Rattle.header.specs.declared.Header.{Header}
 use Rattle.header.specs.declared.HeaderType.{HeaderType}
 use Rattle.header.specs.declared.HeaderType.the-variants.{Type0, Type1, Type2, Type3, Type4, Type5, Type6, Type0LegacyServer, Type0LegacyGpu}
-use Rattle.header_put.specs.Fit.{fieldsFit}
+use Rattle.encode.specs.Fit.{fieldsFit}
 use Rattle.encode.specs.Encode.{versionFits, readable, layoutFits, encodable}
 
 -- a version that fits is within its bits

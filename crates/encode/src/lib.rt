@@ -1,8 +1,11 @@
 // The header encoder, which the Rust does not have: the inverse of decode.
 ghost use mathlib.Core.Path.{_≡_};
-ghost use Rattle.header_put.specs.Fit.{fieldsFit};
+ghost use Rattle.encode.specs.Fit.{fieldsFit};
 ghost use Rattle.encode.specs.Encode.{versionFits, layoutNumber, encodable, answered, encodedOf};
 ghost use Rattle.header.specs.Access.{layoutIn};
+
+mod put;
+
 use frame::Layout;
 use frame::version::END_MARK;
 use frame::version::ENDED;
@@ -10,6 +13,7 @@ use frame::version::Version;
 use header::Header;
 use header::HeaderType;
 use header::fields::server_die;
+use put::put_header;
 
 // A status that shares its word with complete is below this.
 const STATUS_END: u32 = 2147483648;
@@ -155,7 +159,7 @@ pub fn encode(header: Header, rules: &[u32], out: &mut [u8]) -> Encoded
     if out.len() < size {
         return refused(Answer::OutputShort);
     }
-    header_put::put_header(out, header);
+    put_header(out, header);
     Encoded {
         answer: Answer::Done,
         length: size,

@@ -26,12 +26,12 @@ use Rattle.header.specs.Access.{layoutIn, countIn, headerSize, recordBytes}
 use Rattle.header.specs.declared.Header.{Header}
 use Rattle.header.specs.declared.HeaderType.{HeaderType}
 use Rattle.header.specs.declared.Answer.the-variants.{Done}
-use Rattle.header_put.specs.Values.{valuesFor, valuesOf, headerBytes}
-use Rattle.header_put.specs.Fit.{fieldsFit}
+use Rattle.encode.specs.Values.{valuesFor, valuesOf, headerBytes}
+use Rattle.encode.specs.Fit.{fieldsFit}
 use Rattle.encode.specs.Encode.{encodable, encodedOf}
 use Rattle.encode.specs.declared.Encoded.{Encoded}
 use Rattle.encode.proofs.Fitting.{in-bits, can-version, can-read, can-choose, can-fit, can-count}
-use Rattle.header_put.proofs.Tables.{tables-full, length-values}
+use Rattle.encode.proofs.Tables.{tables-full, length-values}
 use Rattle.header_laws.specs.Typed.{Typed}
 use Rattle.header_laws.specs.Rounds.{cleared, decodedAs}
 use Rattle.header_laws.proofs.Version.{version-word, word-lt}

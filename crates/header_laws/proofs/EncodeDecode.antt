@@ -20,12 +20,12 @@ use Rattle.header.specs.Access.{layoutIn, countIn, headerSize}
 use Rattle.header.specs.declared.Header.{Header}
 use Rattle.header.specs.declared.Decoded.{Decoded}
 use Rattle.header.specs.declared.Answer.the-variants as decoded
-use Rattle.header_put.specs.Values.{valuesFor, valuesOf, headerBytes}
-use Rattle.header_put.specs.Fit.{fieldsFit}
+use Rattle.encode.specs.Values.{valuesFor, valuesOf, headerBytes}
+use Rattle.encode.specs.Fit.{fieldsFit}
 use Rattle.encode.specs.Encode.{versionFits, layoutNumber, encodable, answered, encodedOf}
 use Rattle.encode.specs.declared.Answer.the-variants.{Done}
 use Rattle.encode.proofs.Fitting.{as-fit}
-use Rattle.header_put.proofs.Tables.{tables-full}
+use Rattle.encode.proofs.Tables.{tables-full}
 use Rattle.header_laws.specs.Typed.{Bytes}
 use Rattle.header_laws.specs.Rounds.{unreadZero, restored}
 use Rattle.header_laws.proofs.Version.{word-version}

@@ -20,9 +20,9 @@ use Rattle.frame.specs.declared.Layout.the-variants.{Zero, One, Two, Three, Fou
 use Rattle.frame.proofs.Sizes.{count-there}
 use Rattle.header.specs.Layouts.{tableOf, status, lowCount, serverDie, padded}
 use Rattle.header.proofs.Statuses.{length-words}
-use Rattle.header_put.specs.Fit.{fieldsFit}
-use Rattle.header_put.specs.Values.{valuesFor}
-use Rattle.header_put.proofs.Tables.{tables-full}
+use Rattle.encode.specs.Fit.{fieldsFit}
+use Rattle.encode.specs.Values.{valuesFor}
+use Rattle.encode.proofs.Tables.{tables-full}
 use Rattle.header_laws.specs.Typed.{Bytes}
 use Rattle.header_laws.specs.Rounds.{cleanHalf, unreadZero}
 use Rattle.header_laws.proofs.Bits.{status-back, half-back}

@@ -1,26 +1,19 @@
-// A header written into an output, each layout field after field, as its table has them.
+// Each layout of a record header written into an output, field after field, as its table has them.
 ghost use mathlib.Core.Path.{_≡_};
-ghost use mathlib.Core.Bool.{true};
 ghost use mathlib.Core.List.{[], _∷_};
 ghost use Prim.Native.Nat.{_+_, _*_, _≤_, _<_};
 ghost use lib.ListN.{length, take};
 ghost use Rattle.le.specs.Le.{put};
 ghost use Rattle.layout.specs.Fields.{field, writeAll};
 ghost use Rattle.layout.specs.Runs.{putRun};
-ghost use Rattle.frame.specs.Version.{InBits};
 ghost use Rattle.frame.specs.declared.Layout.the-variants.{Zero, Two, Three, Four, Six, LegacyServer, LegacyGpu};
 ghost use Rattle.header.specs.Layouts.{tableOf, statusWord, countHalf};
-ghost use Rattle.header.specs.Access.{layoutIn, countIn, headerSize};
-ghost use Rattle.header_put.specs.Values.{stampOf, stampIn, valuesOf};
-ghost use Rattle.header_put.specs.Fit.{fieldsFit};
 use frame::RecordSize;
 use frame::version::bit_of;
-use header::Header;
-use header::HeaderType;
 use header::fields::Stamp;
 
 // A status and above it complete, in one word.
-fn status_word(completion_status: u32, collection_complete: bool) -> u32
+pub fn status_word(completion_status: u32, collection_complete: bool) -> u32
     requires { ⌜ «completion_status» < 2147483648 ⌝ }
     ensures { λ r. ⌜ r ≡ statusWord «completion_status» «collection_complete» ⌝ }
 {
@@ -28,7 +21,7 @@ fn status_word(completion_status: u32, collection_complete: bool) -> u32
 }
 
 // A count and in bit 15 complete, in one halfword.
-fn count_half(count: u16, collection_complete: bool) -> u16
+pub fn count_half(count: u16, collection_complete: bool) -> u16
     requires { ⌜ count ≤ 127 ⌝ }
     ensures { λ r. ⌜ r ≡ countHalf count «collection_complete» ⌝ }
 {
@@ -36,7 +29,7 @@ fn count_half(count: u16, collection_complete: bool) -> u16
 }
 
 // The version word and the sizes: all that types 0 and 1 have.
-fn put_sized(out: &mut [u8], word: u32, size: RecordSize)
+pub fn put_sized(out: &mut [u8], word: u32, size: RecordSize)
     requires { ⌜ 8 ≤ length (now out) ⌝ }
     ensures { λ _. ⌜ now (out .exit) ≡ writeAll (tableOf Zero 0) (word ∷ size .«record_size» ∷ size .«extended_record_size» ∷ []) (now (out .entry)) ⌝ }
 {
@@ -54,7 +47,7 @@ fn put_stamp(out: &mut [u8], stamp: Stamp)
     le::put_u32(out, 20, stamp.reason);
 }
 
-fn put_type2(out: &mut [u8], word: u32, size: RecordSize, stamp: Stamp)
+pub fn put_type2(out: &mut [u8], word: u32, size: RecordSize, stamp: Stamp)
     requires { ⌜ 24 ≤ length (now out) ⌝ }
     ensures { λ _. ⌜ now (out .exit) ≡ writeAll (tableOf Two 0) (word ∷ size .«record_size» ∷ size .«extended_record_size» ∷ stamp .timestamp ∷ stamp .«agent_version» ∷ stamp .reason ∷ []) (now (out .entry)) ⌝ }
 {
@@ -62,7 +55,7 @@ fn put_type2(out: &mut [u8], word: u32, size: RecordSize, stamp: Stamp)
     put_stamp(out, stamp);
 }
 
-fn put_type3(out: &mut [u8], word: u32, size: RecordSize, stamp: Stamp, status: u32)
+pub fn put_type3(out: &mut [u8], word: u32, size: RecordSize, stamp: Stamp, status: u32)
     requires { ⌜ 28 ≤ length (now out) ⌝ }
     ensures { λ _. ⌜ now (out .exit) ≡ writeAll (tableOf Three 0) (word ∷ size .«record_size» ∷ size .«extended_record_size» ∷ stamp .timestamp ∷ stamp .«agent_version» ∷ stamp .reason ∷ status ∷ []) (now (out .entry)) ⌝ }
 {
@@ -71,7 +64,7 @@ fn put_type3(out: &mut [u8], word: u32, size: RecordSize, stamp: Stamp, status: 
 }
 
 // Types 4 and 5 have two words after the stamp.
-fn put_type4(out: &mut [u8], word: u32, size: RecordSize, stamp: Stamp, first: u32, second: u32)
+pub fn put_type4(out: &mut [u8], word: u32, size: RecordSize, stamp: Stamp, first: u32, second: u32)
     requires { ⌜ 32 ≤ length (now out) ⌝ }
     ensures { λ _. ⌜ now (out .exit) ≡ writeAll (tableOf Four 0) (word ∷ size .«record_size» ∷ size .«extended_record_size» ∷ stamp .timestamp ∷ stamp .«agent_version» ∷ stamp .reason ∷ first ∷ second ∷ []) (now (out .entry)) ⌝ }
 {
@@ -101,7 +94,7 @@ fn put_dies(out: &mut [u8], die_id: u8, socket_id: u8, half: u16)
     le::put_u16(out, 26, half);
 }
 
-fn put_type6(
+pub fn put_type6(
     out: &mut [u8],
     word: u32,
     size: RecordSize,
@@ -142,7 +135,7 @@ fn put_unread(out: &mut [u8])
     le::put_u16(out, 26, 0);
 }
 
-fn put_type0_legacy_server(
+pub fn put_type0_legacy_server(
     out: &mut [u8],
     word: u32,
     record_size: u16,
@@ -159,140 +152,11 @@ fn put_type0_legacy_server(
     le::put_u32(out, 28, status);
 }
 
-fn put_type0_legacy_gpu(out: &mut [u8], word: u32, record_size: u16, stamp: Stamp, status: u32)
+pub fn put_type0_legacy_gpu(out: &mut [u8], word: u32, record_size: u16, stamp: Stamp, status: u32)
     requires { ⌜ 32 ≤ length (now out) ⌝ }
     ensures { λ _. ⌜ now (out .exit) ≡ writeAll (tableOf LegacyGpu 0) (word ∷ stamp .reason ∷ stamp .timestamp ∷ «record_size» ∷ 0 ∷ stamp .«agent_version» ∷ 0 ∷ status ∷ []) (now (out .entry)) ⌝ }
 {
     put_legacy(out, word, record_size, stamp);
     le::put_u32(out, 24, 0);
     le::put_u32(out, 28, status);
-}
-
-// The stamp of a header; zeros where it has none.
-fn stamp_in(header_type: HeaderType) -> Stamp
-    ensures { λ r. ⌜ r ≡ stampIn «header_type» ⌝ }
-{
-    match header_type {
-        HeaderType::Type0 => stamp(0, 0, 0),
-        HeaderType::Type1 => stamp(0, 0, 0),
-        HeaderType::Type2 {
-            timestamp,
-            agent_version,
-            reason,
-        } => stamp(timestamp, agent_version, reason),
-        HeaderType::Type3 {
-            timestamp,
-            agent_version,
-            reason,
-            ..
-        } => stamp(timestamp, agent_version, reason),
-        HeaderType::Type4 {
-            timestamp,
-            agent_version,
-            reason,
-            ..
-        } => stamp(timestamp, agent_version, reason),
-        HeaderType::Type5 {
-            timestamp,
-            agent_version,
-            reason,
-            ..
-        } => stamp(timestamp, agent_version, reason),
-        HeaderType::Type6 {
-            timestamp,
-            agent_version,
-            reason,
-            ..
-        } => stamp(timestamp, agent_version, reason),
-        HeaderType::Type0LegacyServer {
-            timestamp,
-            agent_version,
-            reason,
-            ..
-        } => stamp(timestamp, agent_version, reason),
-        HeaderType::Type0LegacyGpu {
-            timestamp,
-            agent_version,
-            reason,
-            ..
-        } => stamp(timestamp, agent_version, reason),
-    }
-}
-
-fn stamp(timestamp: u64, agent_version: u32, reason: u32) -> Stamp
-    ensures { λ r. ⌜ r ≡ stampOf timestamp «agent_version» reason ⌝ }
-{
-    Stamp {
-        timestamp,
-        agent_version,
-        reason,
-    }
-}
-
-// A header whose fields fit, into an output that has room.
-pub fn put_header(out: &mut [u8], header: Header)
-    requires { ⌜ (headerSize (header .«header_type») ≤ length (now out)) × InBits (header .version) ⌝ }
-    requires { ⌜ fieldsFit (header .«header_type») (header .version .revision) (header .size .«extended_record_size») ≡ true ⌝ }
-    ensures { λ _. ⌜ now (out .exit) ≡ writeAll (tableOf (layoutIn (header .«header_type»)) (countIn (header .«header_type»))) (valuesOf header) (now (out .entry)) ⌝ }
-{
-    let version = header.version;
-    let size = header.size;
-    let words = header.completion_statuses;
-    let header_type = header.header_type;
-    let word = version.as_u32();
-    let times = stamp_in(header_type);
-    match header_type {
-        HeaderType::Type0 => put_sized(out, word, size),
-        HeaderType::Type1 => put_sized(out, word, size),
-        HeaderType::Type2 { .. } => put_type2(out, word, size, times),
-        HeaderType::Type3 {
-            completion_status: s,
-            collection_complete: c,
-            ..
-        } => put_type3(out, word, size, times, status_word(s, c)),
-        HeaderType::Type4 { whoami, misc, .. } => {
-            put_type4(out, word, size, times, whoami, misc)
-        }
-        HeaderType::Type5 {
-            completion_status: s,
-            collection_complete: c,
-            error_status,
-            ..
-        } => put_type4(out, word, size, times, status_word(s, c), error_status),
-        HeaderType::Type6 {
-            die_id,
-            socket_id,
-            completion_status_size: n,
-            collection_complete: c,
-            ..
-        } => put_type6(
-            out,
-            word,
-            size,
-            times,
-            die_id,
-            socket_id,
-            count_half(n, c),
-            words,
-            n as usize,
-        ),
-        HeaderType::Type0LegacyServer {
-            socket_id,
-            completion_status: s,
-            collection_complete: c,
-            ..
-        } => put_type0_legacy_server(
-            out,
-            word,
-            size.record_size,
-            times,
-            socket_id,
-            status_word(s, c),
-        ),
-        HeaderType::Type0LegacyGpu {
-            completion_status: s,
-            collection_complete: c,
-            ..
-        } => put_type0_legacy_gpu(out, word, size.record_size, times, status_word(s, c)),
-    }
 }

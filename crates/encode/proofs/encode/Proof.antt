@@ -10,12 +10,12 @@ use borrow.Author.Tests.{not-true, not-false, le-leb, lt-leb}
 use Rattle.rules.specs.Rules.{validOf}
 use Rattle.header.specs.Access.{countIn, headerSize}
 use Rattle.header.specs.declared.Header.{Header}
-use Rattle.header_put.specs.Values.{headerBytes}
+use Rattle.encode.specs.Values.{headerBytes}
 use Rattle.encode.specs.Encode.{encodable, answered, encodedOf}
 use Rattle.encode.specs.declared.Answer.the-variants.{Done, BadRules, BadField, OutputShort}
 use Rattle.encode.specs.declared.Encoded.{Encoded}
 use Rattle.encode.proofs.Fitting.{in-bits, can-version, can-fit, can-count}
-use Rattle.header_put.proofs.Tables.{written-bytes}
+use Rattle.encode.proofs.Tables.{written-bytes}
 use borrow.Author.Needs.{needs}
 use Rattle.encode.proofs.encode.Statement.{statement}
 use Rattle.encode.proofs.encode.Tie as tie

@@ -5,7 +5,7 @@ use mathlib.Core.Bool.{_&&_}
 use Prim.Native.Nat.{ℕ}
 use lib.Dec.{eqb}
 use Rattle.header.specs.declared.HeaderType.{HeaderType}
-use Rattle.header_put.specs.Fit.{statusFits, fieldsFit}
+use Rattle.encode.specs.Fit.{statusFits, fieldsFit}
 use borrow.Author.Needs.{needs}
 use Rattle.encode.proofs.fields_fit.Statement.{statement}
 use Rattle.encode.proofs.fields_fit.Tie as tie

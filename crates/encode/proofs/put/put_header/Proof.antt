@@ -9,11 +9,11 @@ use lib.ListN.{length}
 use borrow.Author.Tests.{ltb-true, leb-true}
 use Rattle.layout.proofs.Bools.{both}
 use Rattle.header.specs.Layouts.{serverDie}
-use Rattle.header_put.specs.Fit.{statusFits}
-use Rattle.header_put.proofs.Writing.{room-at, fits-at, stamp-at, written-at}
+use Rattle.encode.specs.Fit.{statusFits}
+use Rattle.encode.proofs.Writing.{room-at, fits-at, stamp-at, written-at}
 use borrow.Author.Needs.{needs}
-use Rattle.header_put.proofs.put_header.Statement.{statement}
-use Rattle.header_put.proofs.put_header.Tie as tie
+use Rattle.encode.proofs.put.put_header.Statement.{statement}
+use Rattle.encode.proofs.put.put_header.Tie as tie
 
 as-u32-requires : tie.Need-as-u32-requires
 as-u32-requires c κs =

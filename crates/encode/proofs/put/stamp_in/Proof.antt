@@ -1,10 +1,10 @@
 -- `stamp_in` gives the stamp of a header.
 -- By the layout. Assumes nothing.
 use mathlib.Core.Path.{sym, ap, _∙_}
-use Rattle.header_put.specs.Values.{stampIn}
+use Rattle.encode.specs.Values.{stampIn}
 use borrow.Author.Needs.{needs}
-use Rattle.header_put.proofs.stamp_in.Statement.{statement}
-use Rattle.header_put.proofs.stamp_in.Tie as tie
+use Rattle.encode.proofs.put.stamp_in.Statement.{statement}
+use Rattle.encode.proofs.put.stamp_in.Tie as tie
 
 enum-told : tie.Need-enum-told
 enum-told c = search needs

@@ -11,8 +11,8 @@ use Rattle.header.specs.Access.{layoutIn, countIn, headerSize}
 use Rattle.header.specs.declared.Header.{Header}
 use Rattle.header.specs.declared.HeaderType.{HeaderType}
 use Rattle.header.specs.declared.fields.Stamp.{Stamp}
-use Rattle.header_put.specs.Values.{stampIn, valuesFor, valuesOf}
-use Rattle.header_put.specs.Fit.{fieldsFit}
+use Rattle.encode.specs.Values.{stampIn, valuesFor, valuesOf}
+use Rattle.encode.specs.Fit.{fieldsFit}
 
 module _ {t k : HeaderType} (told : t ≡ k) where
   pub room-at : (n : ℕ) → headerSize t ≤ n → headerSize k ≤ n
