@@ -1,0 +1,109 @@
+-- `read_input` counts no more bytes than the buffer has.
+-- The loop's invariant: the bytes counted are within the buffer, whose length stays; what is free falls. Assumes nothing.
+use mathlib.Core.Path.{_≡_, subst}
+use mathlib.Core.List.{List}
+use Prim.Native.Nat.{ℕ, _+_, _-_, _≤_}
+use native.Mathlib.Omega.{arith}
+use lib.ListN.{length, take, drop, length-take, length-drop}
+use Rattle.dump.specs.declared.Input.{Input}
+use Rattle.dump.specs.declared.Input.the-variants.{Bytes}
+use Rattle.dump.specs.Input.{Within}
+use borrow.Author.Needs.{needs}
+use Rattle.dump.proofs.read_input.Statement.{statement}
+use Rattle.dump.proofs.read_input.Tie as tie
+
+-- what comes is within what is free
+free : (buffer : List ℕ) (count more : ℕ) (r : Input) → count ≤ length buffer → r ≡ Bytes more
+    → Within (length (take (length buffer - count) (drop count buffer))) r → count + more ≤ length buffer
+free buffer count more r h e w =
+    let m : more ≤ length (take (length buffer - count) (drop count buffer)) = subst (Within (length (take (length buffer - count) (drop count buffer)))) e w in
+    omega (arith, length-take (length buffer - count) (drop count buffer), length-drop count buffer)
+
+abbrev Inv-loop : tie.InvT-loop
+Inv-loop buffer₀ count₀ buffer count = (count ≤ length buffer) × (length buffer ≡ length buffer₀)
+
+abbrev μ-loop : tie.MeasureT-loop
+μ-loop buffer₀ count₀ buffer count = length buffer - count
+
+loop-holds : tie.Need-loop-holds Inv-loop μ-loop
+loop-holds c = search needs
+
+sub-read-some : tie.Need-sub-read-some Inv-loop μ-loop
+sub-read-some c = search needs
+
+part-read-some-start : tie.Need-part-read-some-start Inv-loop μ-loop
+part-read-some-start c = search needs
+
+part-read-some-end : tie.Need-part-read-some-end Inv-loop μ-loop
+part-read-some-end c = search needs
+
+read-some-requires : tie.Need-read-some-requires Inv-loop μ-loop
+read-some-requires c κs = search needs
+
+enum-told : tie.Need-enum-told Inv-loop μ-loop
+enum-told c = search needs
+
+same-length : tie.Need-same-length Inv-loop μ-loop
+same-length c = search needs
+
+returns : tie.Need-returns Inv-loop μ-loop
+returns c = search needs
+
+enum-known-input : tie.Need-enum-known-input Inv-loop μ-loop
+enum-known-input c = search needs
+
+same-length-2 : tie.Need-same-length-2 Inv-loop μ-loop
+same-length-2 c = search needs
+
+returns-2 : tie.Need-returns-2 Inv-loop μ-loop
+returns-2 c = search needs
+
+add-count : tie.Need-add-count Inv-loop μ-loop
+add-count c =
+    let loop = c .before .before .before .before .before .before .before .before .before .loop in
+    let input = c .before .before .input in
+    let read-some = c .before .before .before .before .before .before .read-some in
+    omega (arith, free (loop .buffer) (loop .count) (input .given .0 .0) (read-some .result) (omega arith) (input .given .1) (read-some .ensures))
+
+loop-less : tie.Need-loop-less Inv-loop μ-loop
+loop-less c =
+    let loop = c .before .before .before .before .before .before .before .before .before .loop in
+    let input = c .before .before .input in
+    let read-some = c .before .before .before .before .before .before .read-some in
+    omega (arith, free (loop .buffer) (loop .count) (input .given .0 .0) (read-some .result) (omega arith) (input .given .1) (read-some .ensures))
+
+loop-again : tie.Need-loop-again Inv-loop μ-loop
+loop-again c =
+    let loop = c .before .before .before .before .before .before .before .before .before .loop in
+    let input = c .before .before .input in
+    let read-some = c .before .before .before .before .before .before .read-some in
+    omega (arith, free (loop .buffer) (loop .count) (input .given .0 .0) (read-some .result) (omega arith) (input .given .1) (read-some .ensures))
+
+same-length-3 : tie.Need-same-length-3 Inv-loop μ-loop
+same-length-3 c = search needs
+
+returns-3 : tie.Need-returns-3 Inv-loop μ-loop
+returns-3 c = search needs
+
+pub read-input-spec : {M : Type 1} → statement M
+read-input-spec =
+    tie.close
+    (tie.spec
+    Inv-loop
+    μ-loop
+    loop-holds
+    sub-read-some
+    part-read-some-start
+    part-read-some-end
+    read-some-requires
+    enum-told
+    same-length
+    returns
+    enum-known-input
+    same-length-2
+    returns-2
+    add-count
+    loop-less
+    loop-again
+    same-length-3
+    returns-3)

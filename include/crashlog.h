@@ -1,0 +1,247 @@
+/*
+ * crashlog.h: read Intel Crash Logs.
+ *
+ * Seven functions. crashlog_list walks a region and lists its records, with the records that lie inside Box records.
+ * crashlog_decode reads one record header, crashlog_encode writes one. crashlog_sections, crashlog_section and
+ * crashlog_normalise read a CPER (UEFI's Common Platform Error Record) and write its normal form. crashlog_name names a
+ * record type. Link with libcrashlog.a, which is for x86-64 Linux.
+ *
+ * What holds of every function
+ *
+ * - It reads and writes only what the caller lends, for as long as the call lasts. It allocates nothing, keeps no state and
+ *   no pointer, opens no file, never blocks, and always returns. Calls may run on several threads at once, as long as no
+ *   buffer that one of them writes is lent to another.
+ * - A length counts elements, not bytes: of bytes for uint8_t, of numbers for uint32_t. A pointer with length 0 may be null.
+ * - These are the caller's to ensure, since no function can detect them: a pointer with a length above 0 is not null, and
+ *   has that many elements; a table of uint32_t is aligned to 4 bytes, a crashlog_header to 8; a header pointer is never
+ *   null; and a buffer that is written overlaps no other buffer of the call.
+ * - Numbers in the input are little-endian, as the formats have them. Numbers in tables and structs are in the machine's own
+ *   byte order: convert them before sending them to another machine.
+ * - Any bytes are good input. What is wrong with them is told by the answer, one of the numbers below.
+ * - On a refusal nothing that was lent has changed, save with CRASHLOG_SPANS_FULL, CRASHLOG_TRIES_SPENT and
+ *   CRASHLOG_SECTIONS_FULL, where the rows told are written. Otherwise only the rows, bytes or header told have changed;
+ *   what lies past them in the buffer is as it was.
+ *
+ * The archive needs two symbols from outside: memcpy and memset. A freestanding program supplies its own.
+ *
+ * A worked call
+ *
+ *     #include <stdio.h>
+ *     #include "crashlog.h"
+ *
+ *     static uint32_t spans[512 * CRASHLOG_SPAN_WORDS];
+ *
+ *     void print_records(const uint8_t *region, size_t length)
+ *     {
+ *         crashlog_listing got = crashlog_list(region, length, NULL, 0, CRASHLOG_MOST_TRIES(length),
+ *                                              spans, sizeof spans / sizeof spans[0]);
+ *         for (uint32_t row = 0; row < got.rows; row++) {
+ *             const uint32_t *span = spans + row * CRASHLOG_SPAN_WORDS;
+ *             printf("%u bytes at %u\n", span[CRASHLOG_SPAN_HELD], span[CRASHLOG_SPAN_OFFSET]);
+ *         }
+ *         if (got.answer != CRASHLOG_DONE)
+ *             printf("answer %u\n", got.answer);
+ *     }
+ */
+#ifndef CRASHLOG_H
+#define CRASHLOG_H
+
+#include <stddef.h>
+#include <stdint.h>
+
+#ifdef __cplusplus
+extern "C" {
+#endif
+
+/* Raised by one with every change after which a caller must be compiled again. */
+#define CRASHLOG_INTERFACE_VERSION 1
+
+/* The answers. Each function's comment says which of them it gives. */
+#define CRASHLOG_DONE 0          /* none of the below */
+#define CRASHLOG_TOO_LONG 1      /* a region or a CPER over CRASHLOG_MOST_BYTES */
+#define CRASHLOG_BAD_RULES 2     /* a rule table not in whole rows, over CRASHLOG_MOST_RULES rows, or a flag number above 15 */
+#define CRASHLOG_BAD_HEADER 3    /* the header lacks bytes that it needs */
+#define CRASHLOG_BAD_TYPE 4      /* its header type is 7 to 15, and no rule makes it a legacy header; the type is told */
+#define CRASHLOG_EMPTY_REGION 5  /* no record was found */
+#define CRASHLOG_SPANS_FULL 6    /* a record was found and no row was free */
+#define CRASHLOG_TRIES_SPENT 7   /* a header was to be tried and the limit was reached */
+#define CRASHLOG_NOT_CPER 8      /* under 128 bytes, or a signature is wrong */
+#define CRASHLOG_SECTIONS_FULL 9 /* a section was to be kept and no row was free */
+#define CRASHLOG_OUTPUT_SHORT 10 /* the result is longer than the output, or than 4,294,967,295 bytes */
+#define CRASHLOG_BAD_FIELD 11    /* a header that can't be encoded */
+#define CRASHLOG_ENDED 254       /* decode: the records have ended (under 4 bytes, a word 0 or a word 0xdeadbeef) */
+#define CRASHLOG_NONE 255        /* section: there is no such row */
+
+/* Limits. */
+#define CRASHLOG_MOST_BYTES 1048576 /* of a region or a CPER */
+#define CRASHLOG_MOST_RULES 64      /* rows of a rule table */
+
+/* Tries that are enough for any region of n bytes, under any rules. No listing has more rows than tries. */
+#define CRASHLOG_MOST_TRIES(n) ((uint64_t)5 * (uint64_t)(n))
+
+/*
+ * The rule table: rows of three numbers, mask, wanted, flags. A row applies to a record when (version word & mask) == wanted;
+ * the record's flags are the union over the rows that apply. The flag number is a sum of these.
+ */
+#define CRASHLOG_RULE_WORDS 3
+#define CRASHLOG_LEGACY_SERVER 1
+#define CRASHLOG_LEGACY_GPU 2
+#define CRASHLOG_LEGACY_SERVER_BOX 4 /* the record is a Box */
+#define CRASHLOG_SIZES_IN_BYTES 8    /* the record's sizes count bytes; else words of 4 bytes */
+
+/* A row of the span table, number by number. The room is the table's length divided by 8, rounded down. */
+#define CRASHLOG_SPAN_WORDS 8
+#define CRASHLOG_SPAN_LEVEL 0       /* 0 at the top, 1 in a Box, .. 4 */
+#define CRASHLOG_SPAN_PARENT 1      /* the row of the Box that it lies in; CRASHLOG_NO_PARENT at the top */
+#define CRASHLOG_SPAN_OFFSET 2      /* where it starts, in the whole region */
+#define CRASHLOG_SPAN_HELD 3        /* how many of its bytes are there */
+#define CRASHLOG_SPAN_DECLARED 4    /* how many it says it has */
+#define CRASHLOG_SPAN_HEADER_SIZE 5 /* of its header */
+#define CRASHLOG_SPAN_VERSION 6     /* its version word; the record type is bits 24 to 29 */
+#define CRASHLOG_SPAN_FLAGS 7       /* from the rule table */
+#define CRASHLOG_NO_PARENT 4294967295u
+
+/* A row of the section table. The room is the table's length divided by 3, rounded down. */
+#define CRASHLOG_SECTION_WORDS 3
+#define CRASHLOG_SECTION_INDEX 0  /* of its descriptor */
+#define CRASHLOG_SECTION_OFFSET 1 /* of its body, in the CPER */
+#define CRASHLOG_SECTION_LENGTH 2 /* of its body */
+
+/* What a listing tells. */
+typedef struct {
+    uint8_t answer;
+    uint8_t bad_type; /* with CRASHLOG_BAD_TYPE, else 0 */
+    uint8_t whole;    /* 1 when the answer is 0 and every row holds what it declares, else 0 */
+    uint8_t reserved; /* 0 */
+    uint32_t rows;    /* rows written, from the table's start */
+    uint64_t tries;   /* headers tried */
+} crashlog_listing;
+
+/* What a header decode tells. All but answer and bad_type are 0 unless the answer is 0. */
+typedef struct {
+    uint8_t answer;
+    uint8_t bad_type;     /* with CRASHLOG_BAD_TYPE, else 0 */
+    uint8_t flags;        /* from the rule table */
+    uint8_t reserved;     /* 0 */
+    uint32_t declared;    /* bytes that the record says it has */
+    uint32_t header_size; /* bytes of its header */
+} crashlog_judged;
+
+/* The layouts of a header. 0 to 6 are the header types. */
+#define CRASHLOG_LAYOUT_LEGACY_SERVER 7
+#define CRASHLOG_LAYOUT_LEGACY_GPU 8
+
+#define CRASHLOG_MOST_STATUSES 127
+
+/*
+ * A record header. Fields that the layout lacks are 0 from decode and ignored by encode, and so are the status words past
+ * completion_status_size. A yes/no is 1 or 0; encode refuses any other value in one that the header has.
+ */
+typedef struct {
+    uint64_t timestamp;                /* layouts 2 to 8 */
+    uint32_t revision;                 /* all; 8 bits */
+    uint32_t product_id;               /* all; 12 bits */
+    uint32_t agent_version;            /* layouts 2 to 8 */
+    uint32_t reason;                   /* layouts 2 to 8 */
+    uint32_t completion_status;        /* layouts 3, 5, 7, 8; 31 bits */
+    uint32_t error_status;             /* layout 5 */
+    uint32_t whoami;                   /* layout 4 */
+    uint32_t misc;                     /* layout 4 */
+    uint16_t header_type;              /* all; 4 bits; the type that the version word has, legacy or not */
+    uint16_t record_size;              /* all */
+    uint16_t extended_record_size;     /* all; 0 in layouts 7 and 8 */
+    uint16_t completion_status_size;   /* layout 6: how many status words, at most CRASHLOG_MOST_STATUSES */
+    uint8_t record_type;               /* all; 6 bits */
+    uint8_t cldic;                     /* all; yes/no */
+    uint8_t consumed;                  /* all; yes/no */
+    uint8_t layout;                    /* all; 0 to 8 */
+    uint8_t die_id;                    /* layouts 6, 7; in layout 7 the revision decides it */
+    uint8_t socket_id;                 /* layouts 6, 7 */
+    uint8_t collection_complete;       /* layouts 3, 5, 6, 7, 8; yes/no */
+    uint8_t reserved;                  /* 0 from decode */
+    uint32_t completion_statuses[CRASHLOG_MOST_STATUSES]; /* layout 6 */
+} crashlog_header;
+
+/* How many bytes were written; 0 on a refusal. */
+typedef struct {
+    uint32_t answer;
+    uint32_t length;
+} crashlog_written;
+
+/* How many rows were written, from the table's start; 0 on a refusal other than CRASHLOG_SECTIONS_FULL. */
+typedef struct {
+    uint32_t answer;
+    uint32_t rows;
+} crashlog_table;
+
+/* A part of the input; offset and length are 0 unless the answer is 0. */
+typedef struct {
+    uint32_t answer;
+    uint32_t offset;
+    uint32_t length;
+} crashlog_part;
+
+/*
+ * Lists the records of a region, and of the Boxes in it down to four levels, each Box before what lies in it. At most `limit`
+ * headers are tried.
+ *
+ * Answers: DONE, TOO_LONG, BAD_RULES, BAD_HEADER and BAD_TYPE (of the region's first header), EMPTY_REGION, SPANS_FULL,
+ * TRIES_SPENT. With DONE, SPANS_FULL and TRIES_SPENT `rows` rows are written; with any other answer `rows` is 0 and the table
+ * is as it was. `tries` is told with every answer.
+ */
+crashlog_listing crashlog_list(const uint8_t *region, size_t region_len, const uint32_t *rules, size_t rules_len,
+                               uint64_t limit, uint32_t *spans, size_t spans_len);
+
+/*
+ * Reads the header at the start of some bytes, of any length.
+ *
+ * Answers: DONE, BAD_RULES, BAD_HEADER, BAD_TYPE, ENDED. With DONE every field of *header is written; with any other answer
+ * *header is as it was (the same values are stored again). Any values will do to begin with, but it must have some: zero it
+ * once.
+ */
+crashlog_judged crashlog_decode(const uint8_t *bytes, size_t bytes_len, const uint32_t *rules, size_t rules_len,
+                                crashlog_header *header);
+
+/*
+ * Writes a header's bytes (8 to 536) to the start of the output. Decoding them under the same rules gives the header again.
+ *
+ * Answers, in this order: BAD_RULES; BAD_FIELD; OUTPUT_SHORT; DONE. A header can't be encoded when a field exceeds its bits,
+ * a yes/no that it has is neither 0 nor 1, its layout is not the one that rules and header type choose, its version word
+ * would read as ended, or it is a legacy header with an extended size or with another die than its revision's.
+ */
+crashlog_written crashlog_encode(const crashlog_header *header, const uint32_t *rules, size_t rules_len,
+                                 uint8_t *out, size_t out_len);
+
+/*
+ * Tables the sections of a CPER whose descriptor and whole body lie in the input.
+ *
+ * Answers: DONE, TOO_LONG, NOT_CPER, SECTIONS_FULL. With DONE and SECTIONS_FULL `rows` rows are written.
+ */
+crashlog_table crashlog_sections(const uint8_t *cper, size_t cper_len, uint32_t *table, size_t table_len);
+
+/*
+ * Where the body of one section of that table is, by its row.
+ *
+ * Answers: DONE, TOO_LONG, NOT_CPER, NONE.
+ */
+crashlog_part crashlog_section(const uint8_t *cper, size_t cper_len, uint32_t row);
+
+/*
+ * Writes a CPER's normal form to the start of the output: the sections of the table in order, bodies packed after the
+ * descriptors, what the record says is absent or reserved as zero. It is 128 bytes, 72 for each section, and the bodies.
+ *
+ * Answers: DONE, TOO_LONG, NOT_CPER, OUTPUT_SHORT.
+ */
+crashlog_written crashlog_normalise(const uint8_t *cper, size_t cper_len, uint8_t *out, size_t out_len);
+
+/*
+ * The length of a record type's name, at most 16. The name's bytes, with no zero after them, are written to the start of the
+ * output where they fit, else the output is as it was. A type without a name is "UNKNOWN".
+ */
+uint32_t crashlog_name(uint32_t record_type, uint8_t *out, size_t out_len);
+
+#ifdef __cplusplus
+}
+#endif
+
+#endif
