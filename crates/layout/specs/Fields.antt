@@ -1,8 +1,8 @@
 -- A layout as a table of fields: what it reads of some bytes, and what it writes into them.
 use Prim.Native.Nat.{ℕ, zero, suc, _+_, _/_, _%_, _^_, _≤_, _<_}
 use mathlib.Core.List.{List, [], _∷_, _++_}
-use mathlib.Core.Bool.{Bool, false, _&&_, _||_}
-use lib.Dec.{eqb, leb, ltb}
+use mathlib.Core.Bool.{Bool, _&&_}
+use lib.Dec.{eqb}
 use Rattle.le.specs.Le.{le, put}
 
 -- a number of `width` bytes, least byte first, from `at` on
@@ -20,11 +20,6 @@ abbrev pub Fits : ℕ → List Field → ℕ → Type 0
 Fits lo [] n = lo ≤ n
 Fits lo (f ∷ fs) n = (lo ≤ f .at) × Fits (f .at + f .width) fs n
 
--- the same as a test
-abbrev pub fits : ℕ → List Field → ℕ → Bool
-fits lo [] n = leb lo n
-fits lo (f ∷ fs) n = leb lo (f .at) && fits (f .at + f .width) fs n
-
 -- does each field start where the one before it ends, the first at `lo`, and the last end at `n`?
 abbrev pub fullFrom : ℕ → List Field → ℕ → Bool
 fullFrom lo [] n = eqb lo n
@@ -33,15 +28,6 @@ fullFrom lo (f ∷ fs) n = eqb lo (f .at) && fullFrom (f .at + f .width) fs n
 -- do the fields take up the first `n` bytes without a gap?
 abbrev pub full : List Field → ℕ → Bool
 full fs n = fullFrom 0 fs n
-
--- does a field cover the byte at `j`?
-abbrev pub inside : Field → ℕ → Bool
-inside f j = leb (f .at) j && ltb j (f .at + f .width)
-
--- does one of the fields?
-unfoldable pub covers : List Field → ℕ → Bool
-covers [] j = false
-covers (f ∷ fs) j = inside f j || covers fs j
 
 -- ---- their values
 
