@@ -44,6 +44,7 @@ fn read_input(buffer: &mut [u8]) -> Input
     Input::Bytes(count)
 }
 
+// Prints the text of a region; stops at the first write that fails.
 fn print_dump(region: &[u8]) {
     let mut out = [0u8; text::MOST_TEXT];
     let n = text::dump(region, &mut out);

@@ -1,3 +1,4 @@
 pub mod Lays
 pub mod Numbers
 pub mod Rows
+pub mod Printed

@@ -2,7 +2,7 @@
 -- In each case of the listing the rows are at most the table's. Assumes nothing.
 use mathlib.Core.Bool.{Bool, true, false, cond}
 use mathlib.Core.List.{List, []}
-use Prim.Native.Nat.{ℕ, _*_, _/_, _≤_}
+use Prim.Native.Nat.{ℕ, _*_, _≤_}
 use native.Mathlib.Nat.{div-mul-le-self}
 use native.Mathlib.Omega.{arith}
 use lib.Dec.{ltb}
@@ -10,7 +10,7 @@ use lib.ListN.{length, take, length-take}
 use Rattle.region.specs.declared.Answer.the-variants.{TooLong}
 use Rattle.region.specs.declared.Listing.{Listing}
 use Rattle.region.specs.Trace.{rowsIn, allTries}
-use Rattle.region.specs.Listing.{refusal, shown, capacity, worked, listed}
+use Rattle.region.specs.Listing.{refusal, capacity, worked, listed}
 use Rattle.region_laws.proofs.Shown.{rows-shown, listed-cases}
 use Rattle.text.specs.Dump.{mostInput, listing}
 

@@ -2,7 +2,7 @@
 use Prim.Native.Nat.{ℕ, zero, suc, _+_, _*_}
 use Prim.Native.String.{String}
 use mathlib.Core.Bool.{Bool, cond}
-use mathlib.Core.List.{List, [], _++_}
+use mathlib.Core.List.{List, [], _∷_, _++_}
 use lib.Dec.{ltb}
 use lib.ListN.{length, drop, getD, replicate}
 use Rattle.frame.specs.Version.{recordType}
@@ -51,6 +51,11 @@ rowOf t =
 unfoldable pub rowLines : List ℕ → ℕ → List ℕ
 rowLines t zero = []
 rowLines t (suc n) = rowLines t n ++ rowLine (rowOf (drop (n * 8) t))
+
+-- the lines of some rows
+unfoldable pub lines : List Span → List ℕ
+lines [] = []
+lines (r ∷ rs) = rowLine r ++ lines rs
 
 abbrev pub yesNo : Bool → List ℕ
 yesNo b = cond b (ascii "yes") (ascii "no")

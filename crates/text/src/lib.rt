@@ -27,13 +27,13 @@ const NO_RULES: [u32; 0] = [];
 // The numbers of a row, and of a table of 512 rows.
 const NUMBERS_IN_ROW: usize = 8;
 
-const NUMBERS: usize = 512 * 8;
+const NUMBERS: usize = 512 * NUMBERS_IN_ROW;
 
-// The most bytes of a text: the heading, 512 rows, and the last line.
+// The most bytes of a text: the heading, 512 rows of at most 81 bytes, and the last line.
 pub const MOST_TEXT: usize = 47 + 512 * 81 + 91;
 
-// Some bytes, from `at` on; gives where they end, as every function here that puts something.
-pub(crate) fn put_text(out: &mut [u8], at: usize, text: &[u8]) -> usize
+// Some bytes, from `at` on. This and every other `put` gives where its text ends.
+fn put_text(out: &mut [u8], at: usize, text: &[u8]) -> usize
     requires { ⌜ at + length (now text) ≤ length (now out) ⌝ }
     ensures { λ r. ⌜ Laid (now (out .entry)) at (now (text .entry)) (now (out .exit)) r ⌝ }
 {
@@ -106,7 +106,7 @@ fn put_rows(out: &mut [u8], at: usize, spans: &[u32], rows: usize) -> usize
     next
 }
 
-// Document 01's number of an answer.
+// The number of an answer.
 fn number_of(answer: Answer) -> u64
     ensures { λ r. ⌜ (r ≡ numberOf answer) × (r < 8) ⌝ }
 {
@@ -122,6 +122,7 @@ fn number_of(answer: Answer) -> u64
     }
 }
 
+// Whether the listing is whole.
 fn put_whole(out: &mut [u8], at: usize, whole: bool) -> usize
     requires { ⌜ at + 3 ≤ length (now out) ⌝ }
     ensures { λ r. ⌜ Laid (now (out .entry)) at (yesNo whole) (now (out .exit)) r ⌝ }
@@ -158,7 +159,7 @@ fn put_last(out: &mut [u8], at: usize, listing: Listing) -> usize
     put_text(out, number, b"\n")
 }
 
-// The listing of a region that is not over the longest input.
+// The listing, or the refusal of a region that is too long.
 fn listing_of(region: &[u8], spans: &mut [u32]) -> Listing
     ensures { λ r. ⌜ (now (spans .exit), r) ≡ listing (now (region .entry)) (now (spans .entry)) ⌝ }
     ensures { λ r. ⌜ r .rows * 8 ≤ length (now (spans .entry)) ⌝ }

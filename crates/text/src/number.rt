@@ -1,11 +1,12 @@
 // Numbers as text.
 ghost use mathlib.Core.Path.{_≡_};
 ghost use mathlib.Core.List.{[], _∷_};
-ghost use Prim.Native.Nat.{_+_, _≤_, _<_, _^_};
+ghost use Prim.Native.Nat.{_+_, _≤_, _<_};
 ghost use lib.ListN.{length};
 ghost use Rattle.text.specs.Number.{digit as Number·digit, digits, places as Number·places, decimal, hex};
 ghost use Rattle.text.specs.Laid.{Laid};
 
+// A digit below 16; the letters start ten below `a`.
 fn digit(d: u64) -> u8
     requires { ⌜ d < 16 ⌝ }
     ensures { λ r. ⌜ r ≡ Number·digit d ⌝ }

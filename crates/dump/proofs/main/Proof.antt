@@ -1,10 +1,8 @@
 -- `main` prints the bytes that `read_input` counts, which are within the buffer.
 -- Assumes nothing.
 use mathlib.Core.Path.{_≡_, sym, subst}
-use mathlib.Core.List.{List}
 use Prim.Native.Nat.{ℕ, _≤_}
 use native.Mathlib.Omega.{arith}
-use lib.ListN.{length, take}
 use lib.Seq.{length-take-le}
 use Rattle.dump.specs.declared.Input.{Input}
 use Rattle.dump.specs.declared.Input.the-variants.{Bytes}

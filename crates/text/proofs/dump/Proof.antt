@@ -1,10 +1,9 @@
 -- `dump` lays the heading, the rows and the last line at the start of the buffer, which has room for 512 rows.
 -- Assumes nothing.
-use mathlib.Core.Path.{_≡_, sym, ap, subst, _∙_}
+use mathlib.Core.Path.{_≡_, subst}
 use mathlib.Core.List.{List}
-use Prim.Native.Nat.{ℕ, _≤_}
+use Prim.Native.Nat.{ℕ}
 use native.Mathlib.Omega.{arith}
-use lib.ListN.{length}
 use Rattle.region.specs.declared.Listing.{Listing}
 use Rattle.text.specs.Laid.{Laid}
 use Rattle.text.specs.Dump.{heading, rowLines, lastLine, listing, textOfListing, table, dumpText}

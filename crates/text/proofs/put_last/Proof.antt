@@ -1,6 +1,5 @@
 -- `put_last` lays the last line, piece after piece.
 -- Assumes nothing.
-use mathlib.Core.Path.{_≡_}
 use native.Mathlib.Omega.{arith}
 use Rattle.text.specs.Dump.{lastLine}
 use Rattle.text.proofs.Lays.{then}

@@ -1,7 +1,7 @@
 -- `put_name` lays the name of a version word's record type: the first `len` bytes of what `name_of` gives.
 -- Assumes nothing.
 use mathlib.Core.Path.{_≡_, sym, ap, _∙_}
-use Prim.Native.Nat.{ℕ, _+_, _≤_}
+use Prim.Native.Nat.{ℕ, _≤_}
 use native.Mathlib.Omega.{arith}
 use lib.ListN.{length, take}
 use Rattle.frame.specs.declared.version.Version.{Version}

@@ -1,7 +1,7 @@
 -- `places` counts the decimal digits of a number; the number is what falls.
 -- Assumes nothing.
 use mathlib.Core.Path.{_≡_, sym, ap, _∙_}
-use Prim.Native.Nat.{ℕ, suc, _+_, _/_, _<_}
+use Prim.Native.Nat.{ℕ, _+_, _/_, _<_}
 use native.Mathlib.Nat.{div-lt-self}
 use native.Mathlib.Numerals.{add-one}
 use native.Mathlib.Omega.{arith}

@@ -2,8 +2,6 @@
 -- Assumes nothing.
 use mathlib.Core.Path.{_≡_, ap, _∙_}
 use Prim.Native.Nat.{ℕ, _+_}
-use Rattle.text.specs.Number.{digits}
-use Rattle.text.specs.Laid.{Laid}
 use Rattle.text.specs.Number.{places as Number·places}
 use Rattle.text.proofs.Numbers.{length-digits}
 use borrow.Author.Needs.{needs}

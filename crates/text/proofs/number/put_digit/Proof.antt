@@ -1,7 +1,6 @@
 -- `put_digit` lays one digit.
 -- Assumes nothing.
 use mathlib.Core.Path.{refl, ap}
-use mathlib.Core.List.{List}
 use Prim.Native.Nat.{ℕ}
 use lib.ListN.{set}
 use borrow.Author.Needs.{needs}

@@ -1,6 +1,6 @@
 -- `put_hex` lays a number's eight hexadecimal digits.
 -- Assumes nothing.
-use mathlib.Core.Path.{_≡_, ap, _∙_}
+use mathlib.Core.Path.{ap, _∙_}
 use Prim.Native.Nat.{ℕ, _+_}
 use Rattle.text.proofs.Numbers.{length-digits}
 use borrow.Author.Needs.{needs}
