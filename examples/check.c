@@ -1,5 +1,5 @@
 /*
- * Tries the C interface: sizes and offsets, round trips of headers, the refusals, CPERs and names.
+ * Tries the C interface: sizes and offsets, round trips of headers, the refusals, CPERs, names and Intel's rules.
  * Prints nothing and ends with status 0 when all is as include/crashlog.h says.
  */
 #include <stdio.h>
@@ -300,6 +300,65 @@ static void names(void)
     EXPECT(crashlog_name(4294967295u, out, sizeof out) == 7 && memcmp(out, "UNKNOWN", 7) == 0);
 }
 
+/* Intel's rule table: written where it fits, accepted, and a header of each kind that it tells apart. */
+static void intel_rules(void)
+{
+    const uint32_t words = CRASHLOG_INTEL_RULE_WORDS;
+    uint32_t rules[CRASHLOG_INTEL_RULE_WORDS + 1], spans[CRASHLOG_SPAN_WORDS];
+    uint8_t bytes[32] = {0x01, 0xf0, 0x02, 0x03, [16] = 8}; /* type 0 of product 0x2f, 8 words */
+    crashlog_header header = {0};
+    crashlog_judged got;
+
+    memset(rules, 0xaa, sizeof rules);
+    EXPECT(crashlog_intel_rules(NULL, 0) == words);
+    EXPECT(crashlog_intel_rules(rules, words - 1) == words && all((const uint8_t *)rules, sizeof rules, 0xaa));
+    EXPECT(crashlog_intel_rules(rules, words) == words && rules[0] == 0x00ffff00);
+    EXPECT(rules[words - 1] == CRASHLOG_SIZES_IN_BYTES && rules[words] == 0xaaaaaaaa);
+    EXPECT(crashlog_intel_rules(rules, words + 1) == words && rules[words] == 0xaaaaaaaa);
+
+    got = crashlog_decode(bytes, sizeof bytes, rules, words, &header);
+    EXPECT(got.answer == CRASHLOG_DONE && got.flags == CRASHLOG_LEGACY_SERVER && got.declared == 32);
+    EXPECT(header.layout == CRASHLOG_LAYOUT_LEGACY_SERVER && header.product_id == 0x2f);
+    bytes[3] = 0x04;
+    EXPECT(crashlog_list(bytes, sizeof bytes, rules, words, 9, spans, 8).answer == CRASHLOG_DONE);
+    EXPECT(spans[CRASHLOG_SPAN_FLAGS] == (CRASHLOG_LEGACY_SERVER | CRASHLOG_LEGACY_SERVER_BOX));
+    memcpy(bytes, "\x01\xe0\x05\x03", 4); /* type 0 of product 0x5e */
+    got = crashlog_decode(bytes, sizeof bytes, rules, words, &header);
+    EXPECT(got.flags == CRASHLOG_LEGACY_GPU && header.layout == CRASHLOG_LAYOUT_LEGACY_GPU);
+    memcpy(bytes, "\x01\x51\x08\x04\x20\0\0\0", 8); /* type 1 of product 0x85, 32 bytes */
+    got = crashlog_decode(bytes, sizeof bytes, rules, words, &header);
+    EXPECT(got.flags == CRASHLOG_SIZES_IN_BYTES && got.declared == 32 && header.layout == 1);
+}
+
+/* The flags that Intel's errata give a header. */
+static uint32_t errata(uint32_t type, uint32_t product, uint32_t record)
+{
+    if (type == 0 && (product == 0x2f || product == 0x82 || product == 0x8e))
+        return CRASHLOG_LEGACY_SERVER | (record == 4 ? CRASHLOG_LEGACY_SERVER_BOX : 0);
+    if (type == 0 && (product == 0x5d || product == 0x5e || product == 0x5f || product == 0xb6))
+        return CRASHLOG_LEGACY_GPU;
+    if ((record == 4 && (product < 0x71 || product == 0x85)) || (record == 6 && product < 0x96))
+        return CRASHLOG_SIZES_IN_BYTES;
+    return 0;
+}
+
+/* Intel's rule table gives these flags to every header type, product and record type, and looks at nothing else. */
+static void intel_errata(void)
+{
+    uint32_t rules[CRASHLOG_INTEL_RULE_WORDS];
+    const uint32_t words = crashlog_intel_rules(rules, CRASHLOG_INTEL_RULE_WORDS);
+
+    for (uint32_t at = 0; at < words; at += CRASHLOG_RULE_WORDS)
+        EXPECT((rules[at] & ~0x3fffff00u) == 0);
+    for (uint32_t fields = 0; fields < 1u << 22; fields++) {
+        uint32_t flags = 0;
+        for (uint32_t at = 0; at < words; at += CRASHLOG_RULE_WORDS)
+            if ((fields << 8 & rules[at]) == rules[at + 1])
+                flags |= rules[at + 2];
+        EXPECT(flags == errata(fields & 15, fields >> 4 & 4095, fields >> 16));
+    }
+}
+
 int main(void)
 {
     for (int type = 0; type <= 6; type++)
@@ -314,5 +373,7 @@ int main(void)
     listings();
     cpers();
     names();
+    intel_rules();
+    intel_errata();
     return 0;
 }

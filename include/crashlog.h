@@ -1,10 +1,11 @@
 /*
  * crashlog.h: read Intel Crash Logs.
  *
- * Seven functions. crashlog_list walks a region and lists its records, with the records that lie inside Box records.
+ * Eight functions. crashlog_list walks a region and lists its records, with the records that lie inside Box records.
  * crashlog_decode reads one record header, crashlog_encode writes one. crashlog_sections, crashlog_section and
  * crashlog_normalise read a CPER (UEFI's Common Platform Error Record) and write its normal form. crashlog_name names a
- * record type. Link with libcrashlog.a, which is for x86-64 Linux.
+ * record type. crashlog_intel_rules writes Intel's errata as a rule table. Link with libcrashlog.a, which is for x86-64
+ * Linux.
  *
  * What holds of every function
  *
@@ -88,6 +89,9 @@ extern "C" {
 #define CRASHLOG_LEGACY_GPU 2
 #define CRASHLOG_LEGACY_SERVER_BOX 4 /* the record is a Box */
 #define CRASHLOG_SIZES_IN_BYTES 8    /* the record's sizes count bytes; else words of 4 bytes */
+
+/* The numbers of the rule table that crashlog_intel_rules writes: 40 rows. */
+#define CRASHLOG_INTEL_RULE_WORDS 120
 
 /* A row of the span table, number by number. The room is the table's length divided by 8, rounded down. */
 #define CRASHLOG_SPAN_WORDS 8
@@ -239,6 +243,15 @@ crashlog_written crashlog_normalise(const uint8_t *cper, size_t cper_len, uint8_
  * output where they fit, else the output is as it was. A type without a name is "UNKNOWN".
  */
 uint32_t crashlog_name(uint32_t record_type, uint8_t *out, size_t out_len);
+
+/*
+ * The number of words of Intel's rule table, CRASHLOG_INTEL_RULE_WORDS. The table is written to the start of the output where
+ * it fits, else the output is as it was. It states Intel's published errata: of header type 0, the legacy headers of the
+ * server products 0x2f, 0x82 and 0x8e (their records of type 4 are Boxes) and of the GPU products 0x5d, 0x5e, 0x5f and 0xb6;
+ * of all other headers, the sizes in bytes in records of type 4 of product 0x85 and of those below 0x71, and in records of
+ * type 6 of products below 0x96. No function answers CRASHLOG_BAD_RULES to it.
+ */
+uint32_t crashlog_intel_rules(uint32_t *out, size_t out_len);
 
 #ifdef __cplusplus
 }

@@ -2,6 +2,7 @@
 // Answers are document 01's numbers; 254 stands for 'ended' and 255 for 'none'. include/crashlog.h documents them for C.
 ghost use mathlib.Core.Path.{_≡_};
 ghost use Prim.Native.Nat.{_%_};
+ghost use Rattle.rules.specs.Intel.{intelOut};
 ghost use Rattle.region.specs.Listing.{numberOf, typeOf, listed};
 ghost use Rattle.cper.specs.Sections.{sectionsOf, placeOf};
 ghost use Rattle.cper.specs.Normal.{normalisedOf};
@@ -214,4 +215,12 @@ pub extern "C" fn crashlog_name(record_type: u32, out: &mut [u8]) -> u32
     }
     bytes::copy(&spelled[..len], out);
     len as u32
+}
+
+// How many numbers Intel's rule table has, which is written where it fits.
+#[no_mangle]
+pub extern "C" fn crashlog_intel_rules(out: &mut [u32]) -> u32
+    ensures { λ r. ⌜ (now (out .exit), r) ≡ intelOut (now (out .entry)) ⌝ }
+{
+    rules::intel::write(out)
 }

@@ -4,6 +4,8 @@ ghost use mathlib.Core.Path.{_≡_};
 ghost use Prim.Native.Nat.{_+_, _<_};
 ghost use Rattle.rules.specs.Rules.{has, flagsOf, validOf};
 
+pub mod intel;
+
 // The flags, as in document 01.
 pub const LEGACY_SERVER: u32 = 1;
 
