@@ -25,6 +25,19 @@ Inv-loop buffer₀ count₀ buffer count = (count ≤ length buffer) × (length 
 abbrev μ-loop : tie.MeasureT-loop
 μ-loop buffer₀ count₀ buffer count = length buffer - count
 
+-- where a turn starts, and how many bytes it brings
+abbrev turn : tie.Else1 Inv-loop μ-loop → tie.At-loop Inv-loop μ-loop
+turn c = c .before .before .before .before .before .before .before .before .before
+
+abbrev more : tie.Else1 Inv-loop μ-loop → ℕ
+more c = c .before .before .input .given .0 .0
+
+-- they are within the buffer
+more-fits : (c : tie.Else1 Inv-loop μ-loop) → turn c .loop .count + more c ≤ length (turn c .loop .buffer)
+more-fits c =
+    let read-some = c .before .before .before .before .before .before .read-some in
+    free (turn c .loop .buffer) (turn c .loop .count) (more c) (read-some .result) (omega arith) (c .before .before .input .given .1) (read-some .ensures)
+
 loop-holds : tie.Need-loop-holds Inv-loop μ-loop
 loop-holds c = search needs
 
@@ -59,25 +72,13 @@ returns-2 : tie.Need-returns-2 Inv-loop μ-loop
 returns-2 c = search needs
 
 add-count : tie.Need-add-count Inv-loop μ-loop
-add-count c =
-    let loop = c .before .before .before .before .before .before .before .before .before .loop in
-    let input = c .before .before .input in
-    let read-some = c .before .before .before .before .before .before .read-some in
-    omega (arith, free (loop .buffer) (loop .count) (input .given .0 .0) (read-some .result) (omega arith) (input .given .1) (read-some .ensures))
+add-count c = omega (arith, more-fits c)
 
 loop-less : tie.Need-loop-less Inv-loop μ-loop
-loop-less c =
-    let loop = c .before .before .before .before .before .before .before .before .before .loop in
-    let input = c .before .before .input in
-    let read-some = c .before .before .before .before .before .before .read-some in
-    omega (arith, free (loop .buffer) (loop .count) (input .given .0 .0) (read-some .result) (omega arith) (input .given .1) (read-some .ensures))
+loop-less c = omega (arith, more-fits c)
 
 loop-again : tie.Need-loop-again Inv-loop μ-loop
-loop-again c =
-    let loop = c .before .before .before .before .before .before .before .before .before .loop in
-    let input = c .before .before .input in
-    let read-some = c .before .before .before .before .before .before .read-some in
-    omega (arith, free (loop .buffer) (loop .count) (input .given .0 .0) (read-some .result) (omega arith) (input .given .1) (read-some .ensures))
+loop-again c = omega (arith, more-fits c)
 
 same-length-3 : tie.Need-same-length-3 Inv-loop μ-loop
 same-length-3 c = search needs

@@ -1,0 +1,1 @@
+// A theorem on the shape of the public contracts. There is no code.
