@@ -1,0 +1,92 @@
+//! A case: one call, and what must come of it. This is also what the replay's data holds (`vectors`).
+
+use std::fmt::Write;
+use std::rc::Rc;
+
+#[derive(Clone, Copy, Debug, PartialEq, Eq, PartialOrd, Ord)]
+pub enum Call {
+    Headers,
+    Encodes,
+    Listings,
+    Texts,
+    Tables,
+    Sections,
+    NormalForms,
+    Names,
+    IntelRules,
+}
+
+/// Where the answer comes from.
+#[derive(Clone, Copy, Debug, PartialEq, Eq)]
+pub enum Source {
+    Rust = 1,
+    CutFromListing = 2,
+    Inverse = 3,
+    Paper = 4,
+}
+
+#[derive(Clone, Debug)]
+pub struct Case {
+    pub call: Call,
+    pub source: Source,
+    pub rules: Rc<[u32]>,
+    /// The try limit, the row or the record type.
+    pub number: u64,
+    /// Elements of the lent buffer: numbers for listings and tables, bytes for encodes, normal forms and names.
+    pub room: usize,
+    pub input: Rc<[u8]>,
+    /// The fields of the C struct, in order.
+    pub told: [u64; 6],
+    /// What the call leaves at the start of the lent buffer; the rest is as it was.
+    pub written: Vec<u8>,
+}
+
+impl Case {
+    /// A case without rules, number and room, to which nothing is told.
+    pub fn new(call: Call, source: Source, input: &Rc<[u8]>) -> Case {
+        Case {
+            call,
+            source,
+            rules: Rc::new([]),
+            number: 0,
+            room: 0,
+            input: input.clone(),
+            told: [0; 6],
+            written: Vec::new(),
+        }
+    }
+
+    pub fn tell(mut self, told: &[u64]) -> Case {
+        self.told[..told.len()].copy_from_slice(told);
+        self
+    }
+
+    pub fn answer(&self) -> u64 {
+        self.told[0]
+    }
+
+    /// The case as text, with its whole input.
+    pub fn describe(&self) -> String {
+        let Case { call, source, number, room, told, .. } = self;
+        format!(
+            "{call:?}, answer from {source:?}\n  rules {:x?}\n  number {number}, room {room}\n  input ({} bytes) {}\n  \
+             must tell {told:?}\n  and write {}",
+            self.rules,
+            self.input.len(),
+            hex(&self.input),
+            hex(&self.written)
+        )
+    }
+}
+
+pub fn hex(bytes: &[u8]) -> String {
+    bytes.iter().fold(String::new(), |mut text, byte| {
+        write!(text, "{byte:02x}").unwrap();
+        text
+    })
+}
+
+/// Numbers as the little-endian bytes of a lent table.
+pub fn table_bytes<const N: usize>(rows: &[[u32; N]]) -> Vec<u8> {
+    rows.iter().flatten().flat_map(|number| number.to_le_bytes()).collect()
+}

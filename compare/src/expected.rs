@@ -1,0 +1,182 @@
+//! What each call must answer: the Rust's reading, with document 01's refusals, limits and rooms around it.
+
+use crate::case::{Call, Case, Source, table_bytes};
+use crate::rust::standin;
+use crate::text;
+use crate::told::{Container, Outcome, Row, Tried, Walk};
+use std::rc::Rc;
+
+pub const DONE: u64 = 0;
+pub const TOO_LONG: u64 = 1;
+pub const BAD_RULES: u64 = 2;
+pub const BAD_HEADER: u64 = 3;
+pub const BAD_TYPE: u64 = 4;
+pub const EMPTY_REGION: u64 = 5;
+pub const SPANS_FULL: u64 = 6;
+pub const TRIES_SPENT: u64 = 7;
+pub const NOT_CPER: u64 = 8;
+pub const SECTIONS_FULL: u64 = 9;
+pub const OUTPUT_SHORT: u64 = 10;
+pub const BAD_FIELD: u64 = 11;
+pub const ENDED: u64 = 254;
+pub const NONE: u64 = 255;
+
+pub const MOST_BYTES: usize = 1_048_576;
+
+/// Whole rows, at most 64 of them, no flag number above 15.
+pub fn good_rules(rules: &[u32]) -> bool {
+    rules.len() % 3 == 0 && rules.len() <= 3 * 64 && rules.chunks_exact(3).all(|row| row[2] <= 15)
+}
+
+pub fn header(rules: &Rc<[u32]>, bytes: &Rc<[u8]>) -> Case {
+    let case = Case { rules: rules.clone(), ..Case::new(Call::Headers, Source::Rust, bytes) };
+    if !good_rules(rules) {
+        return Case { source: Source::Paper, ..case.tell(&[BAD_RULES]) };
+    }
+    standin::set_rules(rules);
+    decoded(case, standin::header(bytes))
+}
+
+/// A header case to which is told what the Rust tried.
+pub fn decoded(case: Case, tried: Tried) -> Case {
+    match tried {
+        Tried::Ended => case.tell(&[ENDED]),
+        Tried::BadHeader => case.tell(&[BAD_HEADER]),
+        Tried::BadType(header_type) => case.tell(&[BAD_TYPE, header_type as u64]),
+        Tried::Good(good) => {
+            let told = [DONE, 0, good.flags as u64, 0, good.declared as u64, good.size as u64];
+            Case { written: good.header.to_bytes(), ..case.tell(&told) }
+        }
+    }
+}
+
+/// The whole walk of a region within the comparison's domain.
+pub fn walk(rules: &[u32], region: &[u8]) -> Option<Walk> {
+    if region.len() > MOST_BYTES || !good_rules(rules) {
+        return None;
+    }
+    standin::set_rules(rules);
+    Some(standin::walk(region))
+}
+
+/// A listing under a limit, in a table of `room` numbers, cut from the whole walk; without one it is refused.
+pub fn listing(rules: &Rc<[u32]>, region: &Rc<[u8]>, walk: &Option<Walk>, limit: u64, room: usize) -> Case {
+    let case = Case { rules: rules.clone(), number: limit, room, ..Case::new(Call::Listings, Source::Paper, region) };
+    let Some(walk) = walk else {
+        return case.tell(&[if region.len() > MOST_BYTES { TOO_LONG } else { BAD_RULES }]);
+    };
+    let cut = cut(walk, limit, room / 8);
+    let source = if cut.answer == SPANS_FULL || cut.answer == TRIES_SPENT { Source::CutFromListing } else { Source::Rust };
+    let told = [cut.answer, cut.bad_type, cut.whole as u64, 0, cut.rows.len() as u64, cut.tries];
+    Case { source, written: table_bytes(&cut.rows), ..case.tell(&told) }
+}
+
+pub struct Cut {
+    pub answer: u64,
+    pub bad_type: u64,
+    pub whole: bool,
+    pub rows: Vec<Row>,
+    pub tries: u64,
+}
+
+/// The part of a walk that a limit of tries and a room of rows allow: the limit is tested before a try, the room after it.
+pub fn cut(walk: &Walk, limit: u64, room: usize) -> Cut {
+    let mut cut = Cut { answer: DONE, bad_type: 0, whole: false, rows: Vec::new(), tries: 0 };
+    for step in &walk.steps {
+        if cut.tries == limit {
+            return Cut { answer: TRIES_SPENT, ..cut };
+        }
+        cut.tries += 1;
+        if let Some(row) = step {
+            if cut.rows.len() == room {
+                return Cut { answer: SPANS_FULL, ..cut };
+            }
+            cut.rows.push(*row);
+        }
+    }
+    match walk.outcome {
+        Outcome::BadHeader => Cut { answer: BAD_HEADER, ..cut },
+        Outcome::BadType(header_type) => Cut { answer: BAD_TYPE, bad_type: header_type as u64, ..cut },
+        Outcome::Empty => Cut { answer: EMPTY_REGION, ..cut },
+        Outcome::Records => Cut { whole: cut.rows.iter().all(|row| row[3] == row[4]), ..cut },
+    }
+}
+
+/// The dump's text: no rules, 512 rows, 81,920 tries, at most 65,535 bytes.
+pub fn text(region: &Rc<[u8]>) -> Case {
+    let name = |record_type| standin::name_of(record_type).unwrap_or("UNKNOWN").to_string();
+    let (source, text) = if region.len() > text::MOST_BYTES {
+        (Source::Paper, text::format(&[], 0, false, TOO_LONG, name))
+    } else {
+        standin::set_rules(&[]);
+        let cut = cut(&standin::walk(region), text::TRIES as u64, text::ROWS);
+        (Source::Rust, text::format(&cut.rows, cut.tries, cut.whole, cut.answer, name))
+    };
+    let written = text.into_bytes();
+    Case { written: written.clone(), ..Case::new(Call::Texts, source, region).tell(&[written.len() as u64]) }
+}
+
+/// What stands in the way of a CPER's being read: its length, or what the Rust says.
+fn refusal<'a>(cper: &[u8], read: &'a Option<Container>) -> Result<&'a Container, u64> {
+    match read {
+        _ if cper.len() > MOST_BYTES => Err(TOO_LONG),
+        None => Err(NOT_CPER),
+        Some(container) => Ok(container),
+    }
+}
+
+fn source(refused: u64) -> Source {
+    if refused == NOT_CPER { Source::Rust } else { Source::Paper }
+}
+
+/// The section table, in room for `room` numbers.
+pub fn table(cper: &Rc<[u8]>, read: &Option<Container>, room: usize) -> Case {
+    let case = Case { room, ..Case::new(Call::Tables, Source::Rust, cper) };
+    let kept = match refusal(cper, read) {
+        Ok(container) => &container.kept,
+        Err(answer) => return Case { source: source(answer), ..case.tell(&[answer]) },
+    };
+    let rows = kept.len().min(room / 3);
+    let (answer, source) = if rows < kept.len() { (SECTIONS_FULL, Source::CutFromListing) } else { (DONE, Source::Rust) };
+    Case { source, written: table_bytes(&kept[..rows]), ..case.tell(&[answer, rows as u64]) }
+}
+
+/// One section, by its row.
+pub fn section(cper: &Rc<[u8]>, read: &Option<Container>, row: u32) -> Case {
+    let case = Case { number: row as u64, ..Case::new(Call::Sections, Source::Rust, cper) };
+    match refusal(cper, read) {
+        Err(answer) => Case { source: source(answer), ..case.tell(&[answer]) },
+        Ok(container) => match container.kept.get(row as usize) {
+            None => case.tell(&[NONE]),
+            Some([_, offset, length]) => case.tell(&[DONE, *offset as u64, *length as u64]),
+        },
+    }
+}
+
+/// The normal form, in room for `room` bytes.
+pub fn normal_form(cper: &Rc<[u8]>, read: &Option<Container>, room: usize) -> Case {
+    let case = Case { room, ..Case::new(Call::NormalForms, Source::Rust, cper) };
+    match refusal(cper, read) {
+        Err(answer) => Case { source: source(answer), ..case.tell(&[answer]) },
+        Ok(container) if container.normal.len() > room => output_short(cper, room),
+        Ok(container) => {
+            let length = container.normal.len() as u64;
+            Case { written: container.normal.clone(), ..case.tell(&[DONE, length]) }
+        }
+    }
+}
+
+/// A normal form that is too long for the room, or for a 32-bit length.
+pub fn output_short(cper: &Rc<[u8]>, room: usize) -> Case {
+    Case { room, ..Case::new(Call::NormalForms, Source::Paper, cper) }.tell(&[OUTPUT_SHORT])
+}
+
+/// A record type's name, in room for `room` bytes.
+pub fn name(record_type: u32, room: usize) -> Case {
+    let known = u8::try_from(record_type).ok();
+    let source = if known.is_some() { Source::Rust } else { Source::Paper };
+    let name = known.and_then(standin::name_of).unwrap_or("UNKNOWN").as_bytes();
+    let written = if name.len() <= room { name.to_vec() } else { Vec::new() };
+    let case = Case { number: record_type as u64, room, ..Case::new(Call::Names, source, &Rc::from([])) };
+    Case { written, ..case.tell(&[name.len() as u64]) }
+}

@@ -1,0 +1,197 @@
+// How either form of the Rust is asked. rust.rs includes this text once for each form, which it calls `form`.
+
+use crate::header::Header as Fields;
+use crate::told::{Container, Good, NO_PARENT, Outcome, Row, Tried, Walk};
+use form::Error;
+use form::cper::Cper;
+use form::errata::Errata;
+use form::header::{Header, HeaderType, Version};
+use form::region::Region;
+
+/// Document 01's flag number of errata.
+pub fn flags_of(errata: &Errata) -> u32 {
+    errata.type0_legacy_server as u32
+        | (errata.type0_legacy_gpu as u32) << 1
+        | (errata.type0_legacy_server_box as u32) << 2
+        | (errata.core_record_size_bytes as u32) << 3
+}
+
+/// The flags of a version word that is not an end.
+pub fn flags_of_word(word: u32) -> u32 {
+    flags_of(&Version::from_slice(&word.to_le_bytes()).unwrap().errata())
+}
+
+/// The name of a record type, where it has one.
+pub fn name_of(record_type: u8) -> Option<&'static str> {
+    let mut header = Header::default();
+    header.version.record_type = record_type;
+    header.record_type().ok()
+}
+
+pub fn header(bytes: &[u8]) -> Tried {
+    form::probe::take_tries();
+    match Header::from_slice(bytes) {
+        Ok(None) => Tried::Ended,
+        Ok(Some(header)) => Tried::Good(Good {
+            header: fields(&header),
+            flags: flags_of(&header.version.errata()),
+            declared: header.record_size(),
+            size: header.header_size(),
+        }),
+        Err(Error::InvalidHeader) => Tried::BadHeader,
+        Err(Error::InvalidHeaderType(header_type)) => Tried::BadType(header_type),
+        Err(error) => panic!("no header gives this: {error}"),
+    }
+}
+
+fn fields(header: &Header) -> Fields {
+    let mut to = Fields {
+        revision: header.version.revision,
+        product_id: header.version.product_id,
+        header_type: header.version.header_type,
+        record_size: header.size.record_size,
+        extended_record_size: header.size.extended_record_size,
+        record_type: header.version.record_type,
+        cldic: header.version.cldic as u8,
+        consumed: header.version.consumed as u8,
+        ..Fields::ZERO
+    };
+    type_fields(&header.header_type, &mut to);
+    to
+}
+
+/// Sets the named fields from variables of the same names.
+macro_rules! set {
+    ($to:ident, $layout:expr, $($field:ident),*) => {{
+        $to.layout = $layout;
+        $($to.$field = (*$field).into();)*
+    }};
+}
+
+fn type_fields(from: &HeaderType, to: &mut Fields) {
+    use crate::header::{LEGACY_GPU, LEGACY_SERVER};
+    use HeaderType::*;
+    match from {
+        Type0 => to.layout = 0,
+        Type1 => to.layout = 1,
+        Type2 { timestamp, agent_version, reason } => set!(to, 2, timestamp, agent_version, reason),
+        Type3 { timestamp, agent_version, reason, completion_status, collection_complete } => {
+            set!(to, 3, timestamp, agent_version, reason, completion_status, collection_complete)
+        }
+        Type4 { timestamp, agent_version, reason, whoami, misc } => {
+            set!(to, 4, timestamp, agent_version, reason, whoami, misc)
+        }
+        Type5 { timestamp, agent_version, reason, completion_status, collection_complete, error_status } => {
+            set!(to, 5, timestamp, agent_version, reason, completion_status, collection_complete, error_status)
+        }
+        Type6 {
+            timestamp,
+            agent_version,
+            reason,
+            die_id,
+            socket_id,
+            completion_status_size,
+            completion_status: statuses,
+            collection_complete,
+        } => {
+            set!(to, 6, timestamp, agent_version, reason, die_id, socket_id, completion_status_size, collection_complete);
+            to.completion_statuses[..statuses.len()].copy_from_slice(statuses);
+        }
+        Type0LegacyServer {
+            timestamp,
+            agent_version,
+            reason,
+            die_id,
+            socket_id,
+            completion_status,
+            collection_complete,
+        } => {
+            set!(to, LEGACY_SERVER, timestamp, agent_version, reason, die_id, socket_id);
+            set!(to, LEGACY_SERVER, completion_status, collection_complete)
+        }
+        Type0LegacyGpu { timestamp, agent_version, reason, completion_status, collection_complete } => {
+            set!(to, LEGACY_GPU, timestamp, agent_version, reason, completion_status, collection_complete)
+        }
+    }
+}
+
+/// A try of the walk: its offset in the whole input, and whether it gave a record.
+struct Attempt {
+    offset: usize,
+    found: bool,
+}
+
+/// Walks a region from the top, and its children as `get_children` gives them.
+pub fn walk(bytes: &[u8]) -> Walk {
+    form::probe::take_tries();
+    let top = Region::from_slice(bytes);
+    let start = bytes.as_ptr() as usize;
+    let tries: Vec<Attempt> = form::probe::take_tries()
+        .iter()
+        .map(|tried| Attempt { offset: tried.address - start, found: tried.found })
+        .collect();
+    let outcome = match &top {
+        Ok(_) => Outcome::Records,
+        Err(Error::InvalidHeader) => Outcome::BadHeader,
+        Err(Error::InvalidHeaderType(header_type)) => Outcome::BadType(*header_type),
+        Err(Error::EmptyRegion) => Outcome::Empty,
+        Err(error) => panic!("no region gives this: {error}"),
+    };
+    let mut walk = Walk { steps: Vec::new(), rows: 0, outcome };
+    match &top {
+        Ok(region) => follow(region, &tries, 0, NO_PARENT, &mut walk),
+        Err(_) => walk.steps.extend(tries.iter().map(|_| None)),
+    }
+    walk
+}
+
+/// Adds the steps of a region that has records, whose own tries are given: a record, its child's steps, the next record. A try
+/// belongs to the child of the record in whose bytes it lies.
+fn follow(region: &Region, tries: &[Attempt], level: u32, parent: u32, walk: &mut Walk) {
+    let children = region.get_children();
+    let mut below = form::probe::take_tries().into_iter().peekable();
+    let mut children = children.iter();
+    let mut records = region.records.iter();
+    for attempt in tries {
+        if !attempt.found {
+            walk.steps.push(None);
+            continue;
+        }
+        let record = records.next().unwrap();
+        let row = walk.rows;
+        walk.steps.push(Some(span(&record.header, record.data.len(), attempt.offset, level, parent)));
+        walk.rows += 1;
+
+        let held = record.data.as_ptr_range();
+        let (start, end) = (held.start as usize, held.end as usize);
+        let mut inner = Vec::new();
+        while let Some(tried) = below.next_if(|tried| (start..end).contains(&tried.address)) {
+            inner.push(Attempt { offset: attempt.offset + tried.address - start, found: tried.found });
+        }
+        if inner.iter().any(|attempt| attempt.found) {
+            follow(children.next().unwrap(), &inner, level + 1, row, walk);
+        } else {
+            walk.steps.extend(inner.iter().map(|_| None));
+        }
+    }
+    assert!(records.next().is_none() && children.next().is_none() && below.next().is_none());
+}
+
+fn span(header: &Header, held: usize, offset: usize, level: u32, parent: u32) -> Row {
+    let flags = flags_of(&header.version.errata());
+    let (declared, size) = (header.record_size() as u32, header.header_size() as u32);
+    [level, parent, offset as u32, held as u32, declared, size, header.version.as_u32(), flags]
+}
+
+/// Reads a CPER and writes its normal form.
+pub fn container(bytes: &[u8]) -> Option<Container> {
+    form::probe::take_kept();
+    let cper = Cper::from_slice(bytes);
+    let kept = form::probe::take_kept();
+    let cper = cper?;
+    Some(Container {
+        kept: kept.iter().map(|kept| [kept.index, kept.offset, kept.length]).collect(),
+        bodies: cper.sections.iter().map(|section| section.body.to_bytes()).collect(),
+        normal: cper.to_bytes(),
+    })
+}

@@ -1,0 +1,7 @@
+//! Inputs: made by a plan, random, or good ones with damage.
+
+pub mod cpers;
+pub mod damage;
+pub mod regions;
+pub mod rule_tables;
+pub mod words;

@@ -1,0 +1,104 @@
+//! The library, behind the program that calls it (caller/caller.c).
+
+use crate::case::{Case, hex};
+use crate::replay;
+use std::io::{self, BufReader, Read, Write};
+use std::process::{Child, ChildStdin, ChildStdout, Command, Stdio};
+
+pub struct Library {
+    program: String,
+    /// Held so that the program lives as long as this.
+    _child: Child,
+    requests: ChildStdin,
+    answers: BufReader<ChildStdout>,
+}
+
+/// What came of a call.
+pub struct Reply {
+    pub told: [u64; 6],
+    /// The first byte that was changed past those that may be.
+    changed: Option<i64>,
+    input_changed: bool,
+    pub written: Vec<u8>,
+}
+
+impl Library {
+    pub fn start(program: &str) -> io::Result<Library> {
+        let mut child = Command::new(program).stdin(Stdio::piped()).stdout(Stdio::piped()).spawn()?;
+        let requests = child.stdin.take().expect("it is a pipe");
+        let answers = BufReader::new(child.stdout.take().expect("it is a pipe"));
+        Ok(Library { program: program.to_string(), _child: child, requests, answers })
+    }
+
+    pub fn ask(&mut self, case: &Case) -> io::Result<Reply> {
+        self.send([case].into_iter())?;
+        self.reply(case)
+    }
+
+    fn send<'a>(&mut self, cases: impl Iterator<Item = &'a Case>) -> io::Result<()> {
+        let mut batch = vec![0; 4];
+        for case in cases {
+            batch.extend((case.call as u32).to_le_bytes());
+            batch.extend(replay::bytes_of(case));
+        }
+        let size = batch.len() as u32 - 4;
+        batch[..4].copy_from_slice(&size.to_le_bytes());
+        self.requests.write_all(&batch)
+    }
+
+    fn reply(&mut self, case: &Case) -> io::Result<Reply> {
+        let mut fixed = [[0; 8]; 8];
+        self.answers.read_exact(fixed.as_flattened_mut())?;
+        let mut written = vec![0; case.written.len()];
+        self.answers.read_exact(&mut written)?;
+        let numbers = fixed.map(u64::from_le_bytes);
+        let changed = numbers[6] as i64;
+        Ok(Reply {
+            told: std::array::from_fn(|at| numbers[at]),
+            changed: (changed != i64::MIN).then_some(changed),
+            input_changed: numbers[7] != 0,
+            written,
+        })
+    }
+
+    /// Tries some cases, and says for each what was wrong, if anything.
+    pub fn check(&mut self, cases: &[&Case]) -> Vec<Result<(), String>> {
+        match self.check_at_once(cases) {
+            Ok(verdicts) => verdicts,
+            Err(_) => cases.iter().map(|case| self.check_alone(case)).collect(),
+        }
+    }
+
+    fn check_at_once(&mut self, cases: &[&Case]) -> io::Result<Vec<Result<(), String>>> {
+        self.send(cases.iter().copied())?;
+        cases.iter().map(|case| Ok(judge(case, &self.reply(case)?))).collect()
+    }
+
+    /// Tries a case on a program of its own: in one of a batch the program has ended.
+    fn check_alone(&mut self, case: &Case) -> Result<(), String> {
+        *self = Library::start(&self.program).map_err(|error| error.to_string())?;
+        match self.ask(case) {
+            Ok(reply) => judge(case, &reply),
+            Err(_) => {
+                *self = Library::start(&self.program).map_err(|error| error.to_string())?;
+                Err("the call did not return".to_string())
+            }
+        }
+    }
+}
+
+fn judge(case: &Case, reply: &Reply) -> Result<(), String> {
+    if reply.told != case.told {
+        return Err(format!("it tells {:?}", reply.told));
+    }
+    if reply.written != case.written {
+        return Err(format!("it writes {}", hex(&reply.written)));
+    }
+    if let Some(at) = reply.changed {
+        return Err(format!("it changes byte {at} of the lent buffer"));
+    }
+    if reply.input_changed {
+        return Err("it changes the input".to_string());
+    }
+    Ok(())
+}

@@ -1,0 +1,45 @@
+//! A case as bytes, as the replay's data and caller.c have it. All numbers are little-endian:
+//!
+//!     0   u32      bytes of the rest of the case
+//!     4   u32      source of the answer
+//!     8   u32      numbers of the rule table
+//!     12  u64      the try limit, the row or the record type
+//!     20  u32      room
+//!     24  u32      length of the input
+//!     28  u32      bytes of the input that are stored: the input is these, again and again
+//!     32  u32      bytes that the call leaves at the start of the lent buffer
+//!     36  6 x u64  what the call tells
+//!     84  the rules, the stored input, the bytes left
+
+use crate::case::Case;
+
+/// From this length on an input is stored by its period.
+const LONG: usize = 4096;
+
+pub fn bytes_of(case: &Case) -> Vec<u8> {
+    let stored = &case.input[..if case.input.len() < LONG { case.input.len() } else { period(&case.input) }];
+    let size = 80 + 4 * case.rules.len() + stored.len() + case.written.len();
+    let counts = [case.room, case.input.len(), stored.len(), case.written.len()];
+    let mut bytes = Vec::with_capacity(4 + size);
+    bytes.extend([size as u32, case.source as u32, case.rules.len() as u32].map(u32::to_le_bytes).concat());
+    bytes.extend(case.number.to_le_bytes());
+    bytes.extend(counts.map(|count| (count as u32).to_le_bytes()).concat());
+    bytes.extend(case.told.map(u64::to_le_bytes).concat());
+    bytes.extend(case.rules.iter().flat_map(|number| number.to_le_bytes()));
+    bytes.extend(stored);
+    bytes.extend(&case.written);
+    bytes
+}
+
+/// The shortest start of which the bytes are repetitions (by the longest start that is also an end).
+fn period(bytes: &[u8]) -> usize {
+    let mut matched = vec![0; bytes.len()];
+    for at in 1..bytes.len() {
+        let mut length: usize = matched[at - 1];
+        while length > 0 && bytes[at] != bytes[length] {
+            length = matched[length - 1];
+        }
+        matched[at] = length + (bytes[at] == bytes[length]) as usize;
+    }
+    bytes.len() - matched.last().unwrap_or(&0)
+}

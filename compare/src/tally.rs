@@ -1,0 +1,74 @@
+//! The count of cases and of differing ones, by kind. Cases are tried in batches.
+
+use crate::case::Case;
+use crate::library::Library;
+use std::collections::BTreeMap;
+use std::mem;
+
+const BATCH_BYTES: usize = 1 << 20;
+
+#[derive(Default)]
+struct Count {
+    cases: u64,
+    differing: u64,
+}
+
+pub struct Tally {
+    pub library: Library,
+    kinds: BTreeMap<&'static str, Count>,
+    waiting: Vec<(&'static str, Case)>,
+    waiting_bytes: usize,
+}
+
+impl Tally {
+    pub fn new(library: Library) -> Tally {
+        Tally { library, kinds: BTreeMap::new(), waiting: Vec::new(), waiting_bytes: 0 }
+    }
+
+    /// Tries a case on the library, now or with later ones.
+    pub fn check(&mut self, kind: &'static str, case: Case) {
+        self.waiting_bytes += 100 + case.input.len() + case.written.len();
+        self.waiting.push((kind, case));
+        if self.waiting_bytes >= BATCH_BYTES {
+            self.check_waiting();
+        }
+    }
+
+    pub fn check_waiting(&mut self) {
+        let waiting = mem::take(&mut self.waiting);
+        self.waiting_bytes = 0;
+        let cases: Vec<&Case> = waiting.iter().map(|(_, case)| case).collect();
+        let verdicts = self.library.check(&cases);
+        for ((kind, case), verdict) in waiting.iter().zip(verdicts) {
+            self.note(kind, verdict.is_ok(), || format!("{}\n  {}", case.describe(), verdict.unwrap_err()));
+        }
+    }
+
+    /// Counts a comparison; the first of a kind that differs is described.
+    pub fn note(&mut self, kind: &'static str, same: bool, describe: impl FnOnce() -> String) {
+        let count = self.kinds.entry(kind).or_default();
+        count.cases += 1;
+        if !same {
+            count.differing += 1;
+            if count.differing == 1 {
+                println!("differing, the first of {kind}: {}", describe());
+            }
+        }
+    }
+
+    pub fn cases(&self) -> u64 {
+        self.kinds.values().map(|count| count.cases).sum()
+    }
+
+    pub fn differing(&self) -> u64 {
+        self.kinds.values().map(|count| count.differing).sum()
+    }
+
+    pub fn print(&self) {
+        println!("{:<24} {:>10} {:>10}", "kind", "cases", "differing");
+        for (kind, count) in &self.kinds {
+            println!("{kind:<24} {:>10} {:>10}", count.cases, count.differing);
+        }
+        println!("{:<24} {:>10} {:>10}", "all", self.cases(), self.differing());
+    }
+}
