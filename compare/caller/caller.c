@@ -118,49 +118,46 @@ static int input_changed(const struct request *asked)
     return memcmp(rules_of(asked), asked->rest, 4 * asked->rules) != 0;
 }
 
-static void call(const struct request *asked, uint64_t told[6])
+/* What a call tells: the fields of its struct in order. */
+struct told {
+    uint64_t fields[6];
+};
+
+static struct told call(const struct request *asked)
 {
     const uint8_t *input = input_of(asked);
     const uint32_t *rules = rules_of(asked);
     uint8_t *lent = area + GUARD;
+    uint32_t *table = (uint32_t *)lent;
     switch (asked->call) {
     case HEADERS: {
         crashlog_judged got = crashlog_decode(input, asked->length, rules, asked->rules, (crashlog_header *)lent);
-        uint64_t fields[] = { got.answer, got.bad_type, got.flags, got.reserved, got.declared, got.header_size };
-        memcpy(told, fields, sizeof fields);
-        return;
+        return (struct told){ { got.answer, got.bad_type, got.flags, got.reserved, got.declared, got.header_size } };
     }
     case ENCODES: {
         crashlog_header header = { 0 };
         memcpy(&header, input, FIELD_BYTES);
         crashlog_written got = crashlog_encode(&header, rules, asked->rules, lent, asked->room);
-        told[0] = got.answer, told[1] = got.length;
-        return;
+        return (struct told){ { got.answer, got.length } };
     }
     case LISTINGS: {
-        crashlog_listing got = crashlog_list(input, asked->length, rules, asked->rules, asked->number, (uint32_t *)lent,
-                                             asked->room);
-        uint64_t fields[] = { got.answer, got.bad_type, got.whole, got.reserved, got.rows, got.tries };
-        memcpy(told, fields, sizeof fields);
-        return;
+        crashlog_listing got = crashlog_list(input, asked->length, rules, asked->rules, asked->number, table, asked->room);
+        return (struct told){ { got.answer, got.bad_type, got.whole, got.reserved, got.rows, got.tries } };
     }
     case TABLES: {
-        crashlog_table got = crashlog_sections(input, asked->length, (uint32_t *)lent, asked->room);
-        told[0] = got.answer, told[1] = got.rows;
-        return;
+        crashlog_table got = crashlog_sections(input, asked->length, table, asked->room);
+        return (struct told){ { got.answer, got.rows } };
     }
     case SECTIONS: {
         crashlog_part got = crashlog_section(input, asked->length, (uint32_t)asked->number);
-        told[0] = got.answer, told[1] = got.offset, told[2] = got.length;
-        return;
+        return (struct told){ { got.answer, got.offset, got.length } };
     }
     case NORMAL_FORMS: {
         crashlog_written got = crashlog_normalise(input, asked->length, lent, asked->room);
-        told[0] = got.answer, told[1] = got.length;
-        return;
+        return (struct told){ { got.answer, got.length } };
     }
-    case NAMES: told[0] = crashlog_name((uint32_t)asked->number, lent, asked->room); return;
-    case INTEL_RULES: told[0] = crashlog_intel_rules((uint32_t *)lent, asked->room); return;
+    case NAMES: return (struct told){ { crashlog_name((uint32_t)asked->number, lent, asked->room) } };
+    case INTEL_RULES: return (struct told){ { crashlog_intel_rules(table, asked->room) } };
     default: _exit(3);
     }
 }
@@ -169,19 +166,18 @@ static void call(const struct request *asked, uint64_t told[6])
 static uint8_t *answer(const struct request *asked, uint8_t *to)
 {
     size_t all = GUARD + lent_bytes(asked) + GUARD;
-    uint64_t told[6] = { 0 };
     int64_t changed = INT64_MIN;
     if (all > sizeof area || asked->written > all || asked->length > 2 * MEGABYTE || 4 * asked->rules > PAGE)
         _exit(4);
     set_input(asked);
     for (size_t at = 0; at < all; at++)
         area[at] = pattern(at);
-    call(asked, told);
+    struct told told = call(asked);
     for (size_t at = all; at-- > 0;)
         if (!may_change(asked, at) && area[at] != pattern(at))
             changed = (int64_t)at - GUARD;
     for (int field = 0; field < 6; field++)
-        to = put8(to, told[field]);
+        to = put8(to, told.fields[field]);
     to = put8(to, (uint64_t)changed);
     to = put8(to, (uint64_t)input_changed(asked));
     memcpy(to, area + GUARD, asked->written);

@@ -42,7 +42,9 @@ pub fn predict(cper: &[u8], standin: &Container) -> (Container, Vec<Difference>)
 fn sections_of(container: &Container) -> Vec<Section> {
     let descriptors = container.normal[HEADER..].chunks_exact(DESCRIPTOR);
     let parts = container.kept.iter().zip(descriptors).zip(&container.bodies);
-    parts.map(|((kept, descriptor), body)| Section { kept: *kept, descriptor: descriptor.to_vec(), body: body.clone() }).collect()
+    parts
+        .map(|((kept, descriptor), body)| Section { kept: *kept, descriptor: descriptor.to_vec(), body: body.clone() })
+        .collect()
 }
 
 /// The last descriptor, where its 52 bytes up to the FRU text are there, the text is not stated, and its body lies in the input.

@@ -7,8 +7,7 @@ use std::process::{Child, ChildStdin, ChildStdout, Command, Stdio};
 
 pub struct Library {
     program: String,
-    /// Held so that the program lives as long as this.
-    _child: Child,
+    child: Child,
     requests: ChildStdin,
     answers: BufReader<ChildStdout>,
 }
@@ -27,7 +26,7 @@ impl Library {
         let mut child = Command::new(program).stdin(Stdio::piped()).stdout(Stdio::piped()).spawn()?;
         let requests = child.stdin.take().expect("it is a pipe");
         let answers = BufReader::new(child.stdout.take().expect("it is a pipe"));
-        Ok(Library { program: program.to_string(), _child: child, requests, answers })
+        Ok(Library { program: program.to_string(), child, requests, answers })
     }
 
     pub fn ask(&mut self, case: &Case) -> io::Result<Reply> {
@@ -61,11 +60,11 @@ impl Library {
         })
     }
 
-    /// Tries some cases, and says for each what was wrong, if anything.
-    pub fn check(&mut self, cases: &[&Case]) -> Vec<Result<(), String>> {
+    /// Tries some cases, and says for each what was wrong, if anything. A call that does not return is the error.
+    pub fn check(&mut self, cases: &[&Case]) -> Result<Vec<Result<(), String>>, String> {
         match self.check_at_once(cases) {
-            Ok(verdicts) => verdicts,
-            Err(_) => cases.iter().map(|case| self.check_alone(case)).collect(),
+            Ok(verdicts) => Ok(verdicts),
+            Err(_) => Err(self.first_that_does_not_return(cases)),
         }
     }
 
@@ -74,15 +73,16 @@ impl Library {
         cases.iter().map(|case| Ok(judge(case, &self.reply(case)?))).collect()
     }
 
-    /// Tries a case on a program of its own: in one of a batch the program has ended.
-    fn check_alone(&mut self, case: &Case) -> Result<(), String> {
-        *self = Library::start(&self.program).map_err(|error| error.to_string())?;
-        match self.ask(case) {
-            Ok(reply) => judge(case, &reply),
-            Err(_) => {
-                *self = Library::start(&self.program).map_err(|error| error.to_string())?;
-                Err("the call did not return".to_string())
-            }
+    /// Makes the calls one by one, on a program started anew; the old one has ended.
+    fn first_that_does_not_return(&mut self, cases: &[&Case]) -> String {
+        let ended = self.child.wait().map_or_else(|error| error.to_string(), |status| status.to_string());
+        match Library::start(&self.program) {
+            Err(error) => return error.to_string(),
+            Ok(library) => *self = library,
+        }
+        match cases.iter().find(|case| self.ask(case).is_err()) {
+            Some(case) => format!("this call does not return ({ended}): {}", case.describe()),
+            None => format!("the program that makes the calls has ended: {ended}"),
         }
     }
 }

@@ -3,7 +3,7 @@
 use crate::case::Case;
 use crate::library::Library;
 use std::collections::BTreeMap;
-use std::mem;
+use std::{mem, process};
 
 const BATCH_BYTES: usize = 1 << 20;
 
@@ -38,7 +38,10 @@ impl Tally {
         let waiting = mem::take(&mut self.waiting);
         self.waiting_bytes = 0;
         let cases: Vec<&Case> = waiting.iter().map(|(_, case)| case).collect();
-        let verdicts = self.library.check(&cases);
+        let verdicts = self.library.check(&cases).unwrap_or_else(|why| {
+            println!("{why}");
+            process::exit(1)
+        });
         for ((kind, case), verdict) in waiting.iter().zip(verdicts) {
             self.note(kind, verdict.is_ok(), || format!("{}\n  {}", case.describe(), verdict.unwrap_err()));
         }

@@ -71,7 +71,7 @@ impl Published {
     fn listing(&self, tally: &mut Tally, region: &Rc<[u8]>) {
         let walk = published::walk(region);
         let (tries, rows) = (walk.steps.len() as u64, walk.rows as usize);
-        tally.check(LISTINGS, expected::listing(&self.rules, region, &Some(walk), tries, 8 * rows));
+        tally.check(LISTINGS, expected::listing(&self.rules, region, &Some(walk), tries, 8 * (rows + 1)));
     }
 
     /// Where no difference is predicted the library must agree with the published form, else the two must differ as predicted.

@@ -33,7 +33,8 @@ fn header_bytes(header_type: u32, revision: u32) -> Vec<u8> {
 
 /// Lengths 0 to 8; each layout one byte short and whole; types 7 to 15; status counts with and without the bits beside them.
 fn headers(cases: &mut Vec<Case>) {
-    let mut push = |flags, bytes: &[u8]| cases.push(expected::header(&Rc::from(rule_tables::always(flags)), &Rc::from(bytes)));
+    let mut push =
+        |flags, bytes: &[u8]| cases.push(expected::header(&Rc::from(rule_tables::always(flags)), &Rc::from(bytes)));
     for length in 0..=8 {
         push(0, &header_bytes(1, 1)[..length]);
         push(0, &header_bytes(7, 1)[..length]);
@@ -206,7 +207,9 @@ fn containers_at_bounds(cases: &mut Vec<Case>) {
         wrong[at] ^= 0x20;
         container(cases, &wrong);
     }
-    for (offset, body) in [(200, 0), (201, 0), (199, 1), (199, 2), (0, 200), (0, 201), (1, 200), (u32::MAX, 1), (1, u32::MAX)] {
+    for (offset, body) in
+        [(200, 0), (201, 0), (199, 1), (199, 2), (0, 200), (0, 201), (1, 200), (u32::MAX, 1), (1, u32::MAX)]
+    {
         let cper = [cpers::plain_header(1), cpers::plain_descriptor(offset, body)].concat();
         container(cases, &cper);
     }

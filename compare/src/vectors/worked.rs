@@ -148,10 +148,7 @@ fn long_regions() -> Vec<Case> {
         [0, NO_PARENT, 524_280, 524_280, 524_280, 8, 0x0312_3101, 0],
         [0, NO_PARENT, 1_048_560, 16, 524_280, 8, 0x0312_3101, 0],
     ];
-    vec![
-        listing(&long(1_048_576), AMPLE, 80, (0, 0, 0, 3), &rows),
-        listing(&long(1_048_577), AMPLE, 80, (1, 0, 0, 0), &[]),
-    ]
+    vec![listing(&long(1_048_576), AMPLE, 80, (0, 0, 0, 3), &rows), listing(&long(1_048_577), AMPLE, 80, (1, 0, 0, 0), &[])]
 }
 
 /// 127 bytes are no CPER; severity 4 is written as 3. The record header is the paper's table, field by field.
