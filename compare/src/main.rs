@@ -66,6 +66,7 @@ fn run(mut tally: Tally, dump: &Dump, seed: u64, count: u64) -> ExitCode {
     ];
     for (name, cases) in fixed {
         cases(&mut tally);
+        tally.check_waiting();
         eprintln!("{name} tried out, {} cases so far", tally.cases());
     }
     published.fixed(&mut tally);
