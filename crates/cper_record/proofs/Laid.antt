@@ -1,48 +1,80 @@
 -- Fields written one after the other from the start of some bytes: their bytes, and then what stood after them.
 -- By putting each field after those before it. Assumes nothing.
-use mathlib.Core.Path.{_≡_, refl, sym, ap, ap₂, _∙_}
-use mathlib.Core.List.{List, [], _++_, append-assoc}
+use mathlib.Core.Path.{_≡_, refl, ap, ap₂, _∙_}
+use mathlib.Core.List.{List, [], _++_}
 use Prim.Native.Nat.{ℕ, _+_, _≤_}
 use native.Mathlib.Omega.{arith}
+use lib.Dec.{T, leb, lit≤}
 use lib.ListN.{length, take, drop, length-append, length-drop}
 use lib.Seq.{take-at}
 use Rattle.le.specs.Le.{put}
 use Rattle.layout.specs.Fields.{digits}
 use Rattle.layout.proofs.Digits.{length-digits, put-digits}
 use Rattle.cper_record.specs.Fields.{over}
+use Rattle.cper_record.specs.Descriptor.{descriptorSize, startSize, startBytes}
 use Rattle.cper_record.proofs.Lists.{drop-past}
 
--- `out` is `base` with `front` in the place of its first `at` bytes
-pub record Laid (base : List ℕ) (at : ℕ) (front out : List ℕ) : Type 0 where
+-- what a fixed size holds, so does all that is as long
+pub within : (n size m : ℕ) → T (leb n size) → size ≤ m → n ≤ m
+within n size m h room = let fits = lit≤ {m = n} {n = size} h in omega arith
+
+-- `out` is `base`, of at least `size` bytes, with `front` in the place of its first `at`
+pub record Laid (size at : ℕ) (out : List ℕ) : Type 0 where
+  pub base : List ℕ
+  pub front : List ℕ
+  pub room : size ≤ length base
   pub is : out ≡ front ++ drop at base
-  pub size : length front ≡ at
+  pub long : length front ≡ at
 
-pub laid-none : (base : List ℕ) → Laid base 0 [] base
-laid-none base = record { is = refl; size = refl }
+abbrev pub laid-none : (size : ℕ) (base : List ℕ) → size ≤ length base → Laid size 0 base
+laid-none size base h = record { base = base; front = []; room = h; is = refl; long = refl }
 
-module _ {base : List ℕ} {at : ℕ} {front out : List ℕ} (laid : Laid base at front out) where
+-- the numbers that a descriptor starts with
+pub length-start : (offset size revision bits flags : ℕ) → length (startBytes offset size revision bits flags) ≡ startSize
+unfolding digits
+length-start offset size revision bits flags = refl
+
+abbrev pub laid-start : (base : List ℕ) → descriptorSize ≤ length base → (offset : ℕ) {size size' revision revision' bits bits' flags flags' : ℕ} {next : List ℕ}
+    → next ≡ startBytes offset size' revision' bits' flags' ++ drop startSize base → size' ≡ size → revision' ≡ revision → bits' ≡ bits → flags' ≡ flags
+    → Laid descriptorSize startSize next
+laid-start base h offset {size} {size'} {revision} {revision'} {bits} {bits'} {flags} {flags'} e s r b f =
+    record {
+      base = base;
+      front = startBytes offset size revision bits flags;
+      room = h;
+      is = e ∙ rw (s, r, b, f);
+      long = length-start offset size revision bits flags;
+    }
+
+module _ {size at : ℕ} {out : List ℕ} (laid : Laid size at out) where
+  pub length-laid : T (leb at size) → length out ≡ length (laid .base)
+  length-laid h =
+      let fits = lit≤ {m = at} {n = size} h in
+      ap length (laid .is) ∙ length-append (laid .front) (drop at (laid .base)) ∙ omega (arith, laid .long, laid .room, length-drop at (laid .base))
+
+  -- there is room for a field
+  pub room-for : (n : ℕ) → T (leb (at + n) size) → at + n ≤ length out
+  room-for n h =
+      let fits = lit≤ {m = at + n} {n = size} h in
+      let same = ap length (laid .is) ∙ length-append (laid .front) (drop at (laid .base)) in
+      omega (arith, laid .long, laid .room, length-drop at (laid .base))
+
   -- a field of bytes follows
-  pub laid-bytes : (n : ℕ) (field next : List ℕ) → at + n ≤ length base → length field ≡ n → next ≡ over out at n field → Laid base (at + n) (front ++ field) next
-  laid-bytes n field next h l e =
+  abbrev pub laid-bytes : (n : ℕ) {field given next : List ℕ} → (next ≡ over out at n given) × (length given ≡ n) → given ≡ field → Laid size (at + n) next
+  laid-bytes n {field} {given} e f =
       record {
+        base = laid .base;
+        front = laid .front ++ field;
+        room = laid .room;
         is =
-            e
-            ∙ ap₂ (λ (a b : List ℕ). a ++ field ++ b)
-            (ap (take at) (laid .is) ∙ take-at front (drop at base) at (laid .size))
-            (ap (drop (at + n)) (laid .is) ∙ drop-past front base at (at + n) (laid .size) (omega arith));
-        size = length-append front field ∙ omega (arith, laid .size);
+            e .0
+            ∙ ap₂ (λ (a b : List ℕ). a ++ given ++ b)
+            (ap (take at) (laid .is) ∙ take-at (laid .front) (drop at (laid .base)) at (laid .long))
+            (ap (drop (at + n)) (laid .is) ∙ drop-past (laid .front) (laid .base) at (at + n) (laid .long) (omega arith))
+            ∙ ap (λ (l : List ℕ). laid .front ++ l ++ drop (at + n) (laid .base)) f;
+        long = length-append (laid .front) field ∙ omega (arith, laid .long, e .1, ap length f);
       }
 
   -- a number follows
-  pub laid-number : (w x : ℕ) (next : List ℕ) → at + w ≤ length base → next ≡ put w out at x → Laid base (at + w) (front ++ digits w x) next
-  laid-number w x next h e =
-      let same = ap length (laid .is) ∙ length-append front (drop at base) in
-      laid-bytes w (digits w x) next h (length-digits w x) (e ∙ put-digits w out at x (omega (arith, laid .size, length-drop at base)))
-
--- two numbers follow, as one field
-pub laid-pair : {base : List ℕ} {at : ℕ} {front out : List ℕ} → Laid base at front out → (w x v y : ℕ) (mid next : List ℕ) → at + w + v ≤ length base
-    → mid ≡ put w out at x → next ≡ put v mid (at + w) y → Laid base (at + w + v) (front ++ (digits w x ++ digits v y)) next
-laid-pair {base} {at} {front} laid w x v y mid next h e f =
-    let both = laid-number (laid-number laid w x mid (omega arith) e) v y next h f in
-    let joined = append-assoc front (digits w x) (digits v y) in
-    record { is = both .is ∙ ap (λ (l : List ℕ). l ++ drop (at + w + v) base) joined; size = ap length (sym joined) ∙ both .size }
+  abbrev pub laid-number : (w : ℕ) {x y : ℕ} {next : List ℕ} → T (leb (at + w) size) → next ≡ put w out at y → y ≡ x → Laid size (at + w) next
+  laid-number w {x} {y} h e f = laid-bytes w (e ∙ put-digits w out at y (room-for w h), length-digits w y) (ap (digits w) f)

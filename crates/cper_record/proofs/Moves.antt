@@ -13,7 +13,8 @@ use Rattle.layout.specs.Fields.{digits}
 use Rattle.layout.proofs.Digits.{digits-zero, digits-le, put-digits}
 use Rattle.cper_record.specs.Fields.{numberIf, has, part, over, present}
 use Rattle.cper_record.proofs.Lists.{drop-past}
-use Rattle.cper_record.proofs.Lengths.{length-part, length-present}
+use Rattle.cper_record.proofs.Lengths.{length-part, length-present, present-again}
+use Rattle.cper_record.proofs.Laid.{Laid, laid-bytes}
 
 -- a field in two parts
 pub present-parts : (held : Bool) (s : List ℕ) (at n m : ℕ) → present held n (part s at n) ++ present held m (part s (at + n) m) ≡ present held (n + m) (part s at (n + m))
@@ -50,6 +51,13 @@ moved-both s held n m at out mid next h o e f =
     f ∙ ap (λ (l : List ℕ). over l (at + n) m (present held m (part s (at + n) m))) e
     ∙ over-over out (present held n (part s at n)) (present held m (part s (at + n) m)) at n m o (length-present held n (part s at n) (length-part s at n h))
     ∙ ap (over out at (n + m)) (present-parts held s at n m)
+
+-- a field that was moved follows; it may have been absent already where it was read
+abbrev pub laid-moved : {size at : ℕ} {out : List ℕ} → Laid size at out → (n : ℕ) (s : List ℕ) (held : Bool) {test : Bool} {next : List ℕ} → at + n ≤ length s
+    → next ≡ over out at n (present test n (part s at n)) → test ≡ held → Laid size (at + n) next
+laid-moved {at = at} laid n s held {test} h e f =
+    laid-bytes laid n {field = present held n (present held n (part s at n))} (e, length-present test n (part s at n) (length-part s at n h))
+    (ap (λ (t : Bool). present t n (part s at n)) f ∙ sym (present-again held n (part s at n)))
 
 -- the known bits of a validation number
 bit : (b m : ℕ) → b < 2 → numberIf (eqb b 1) m ≡ b * m

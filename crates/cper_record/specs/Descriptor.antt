@@ -71,6 +71,14 @@ bitsOf d = numberIf (d .«has_fru_id») fruIdBit + numberIf (d .«has_fru_text»
 abbrev pub normalDescriptor : CperSectionDescriptor → CperSectionDescriptor
 normalDescriptor d = changed (d .«section_offset») (bitsOf d) d
 
+-- the numbers before the section type, and their bytes
+abbrev pub startSize : ℕ
+startSize = 16
+
+abbrev pub startBytes : ℕ → ℕ → ℕ → ℕ → ℕ → List ℕ
+startBytes offset size revision bits flags =
+    digits 4 offset ++ digits 4 size ++ digits 2 revision ++ digits 1 bits ++ zeros 1 ++ digits 4 flags
+
 -- the 72 bytes
 unfoldable pub descriptorBytes : CperSectionDescriptor → List ℕ
 descriptorBytes d =

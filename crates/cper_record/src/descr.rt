@@ -5,7 +5,7 @@ ghost use mathlib.Core.Path.{_≡_};
 ghost use mathlib.Core.List.{_++_};
 ghost use Prim.Native.Nat.{_≤_};
 ghost use lib.ListN.{length, drop};
-ghost use Rattle.cper_record.specs.Descriptor.{descriptorSize, descriptorOf, moved, normalDescriptor, descriptorBytes};
+ghost use Rattle.cper_record.specs.Descriptor.{descriptorSize, descriptorOf, moved, normalDescriptor, startSize, startBytes, descriptorBytes};
 
 pub const SECTION_DESCRIPTOR_SIZE: usize = 72;
 
@@ -99,19 +99,36 @@ impl CperSectionDescriptor {
         let fru_id = self.fru_id;
         let fru_text = self.fru_text;
         let severity = self.section_severity;
-        let fru_id = fields::present16(self.has_fru_id, fru_id);
-        let fru_text = fields::present20(self.has_fru_text, fru_text);
-        le::put_u32(out, SECTION_OFFSET_AT, self.section_offset);
-        le::put_u32(out, SECTION_LENGTH_AT, self.section_length);
-        le::put_u16(out, REVISION_AT, self.revision);
-        le::put_u8(out, VALIDATION_BITS_AT, self.validation_bits);
-        le::put_u8(out, RESERVED_AT, 0);
-        le::put_u32(out, FLAGS_AT, self.flags);
+        put_start(
+            out,
+            self.section_offset,
+            self.section_length,
+            self.revision,
+            self.validation_bits,
+            self.flags,
+        );
         fields::put16(out, SECTION_TYPE_AT, section_type);
-        fields::put16(out, FRU_ID_AT, fru_id);
+        fields::put16(out, FRU_ID_AT, fields::present16(self.has_fru_id, fru_id));
         le::put_u32(out, SECTION_SEVERITY_AT, fields::severity_number(severity));
-        fields::put20(out, FRU_TEXT_AT, fru_text);
+        fields::put20(
+            out,
+            FRU_TEXT_AT,
+            fields::present20(self.has_fru_text, fru_text),
+        );
     }
+}
+
+// Writes the numbers that a descriptor starts with.
+fn put_start(out: &mut [u8], offset: u32, size: u32, revision: u16, bits: u8, flags: u32)
+    requires { ⌜ descriptorSize ≤ length (now out) ⌝ }
+    ensures { λ _. ⌜ now (out .exit) ≡ startBytes offset size revision bits flags ++ drop startSize (now (out .entry)) ⌝ }
+{
+    le::put_u32(out, SECTION_OFFSET_AT, offset);
+    le::put_u32(out, SECTION_LENGTH_AT, size);
+    le::put_u16(out, REVISION_AT, revision);
+    le::put_u8(out, VALIDATION_BITS_AT, bits);
+    le::put_u8(out, RESERVED_AT, 0);
+    le::put_u32(out, FLAGS_AT, flags);
 }
 
 // Writes the normal form of the descriptor that a slice starts with, for a body at an offset: read, moved, normalized and written in one go.
@@ -120,17 +137,17 @@ pub fn rewrite(s: &[u8], out: &mut [u8], offset: u32)
     ensures { λ _. ⌜ now (out .exit) ≡ descriptorBytes (normalDescriptor (moved offset (descriptorOf (now (s .entry))))) ++ drop descriptorSize (now (out .entry)) ⌝ }
 {
     let bits = le::u8_at(s, VALIDATION_BITS_AT);
-    let has_fru_id = fields::has_bit(bits as u32, FRU_ID);
-    let has_fru_text = fields::has_bit(bits as u32, FRU_TEXT);
-    let severity = fields::severity_of(le::u32_at(s, SECTION_SEVERITY_AT));
-    le::put_u32(out, SECTION_OFFSET_AT, offset);
-    le::put_u32(out, SECTION_LENGTH_AT, le::u32_at(s, SECTION_LENGTH_AT));
-    le::put_u16(out, REVISION_AT, le::u16_at(s, REVISION_AT));
-    le::put_u8(out, VALIDATION_BITS_AT, bits % KNOWN_BITS);
-    le::put_u8(out, RESERVED_AT, 0);
-    le::put_u32(out, FLAGS_AT, le::u32_at(s, FLAGS_AT));
+    put_start(
+        out,
+        offset,
+        le::u32_at(s, SECTION_LENGTH_AT),
+        le::u16_at(s, REVISION_AT),
+        bits % KNOWN_BITS,
+        le::u32_at(s, FLAGS_AT),
+    );
     fields::move16(true, s, out, SECTION_TYPE_AT);
-    fields::move16(has_fru_id, s, out, FRU_ID_AT);
+    fields::move16(fields::has_bit(bits as u32, FRU_ID), s, out, FRU_ID_AT);
+    let severity = fields::severity_of(le::u32_at(s, SECTION_SEVERITY_AT));
     le::put_u32(out, SECTION_SEVERITY_AT, fields::severity_number(severity));
-    fields::move20(has_fru_text, s, out, FRU_TEXT_AT);
+    fields::move20(fields::has_bit(bits as u32, FRU_TEXT), s, out, FRU_TEXT_AT);
 }

@@ -232,20 +232,24 @@ impl CperHeader {
         let partition_id = self.partition_id;
         let creator_id = self.creator_id;
         let notification_type = self.notification_type;
-        let timestamp = timestamp.to_bytes(self.has_timestamp);
-        let platform_id = fields::present16(self.has_platform_id, platform_id);
-        let partition_id = fields::present16(self.has_partition_id, partition_id);
-        let severity = fields::severity_number(severity);
         sign(out);
         le::put_u16(out, REVISION_AT, self.revision);
         le::put_u32(out, SIGNATURE_END_AT, SIGNATURE_END);
         le::put_u16(out, SECTION_COUNT_AT, self.section_count);
-        le::put_u32(out, ERROR_SEVERITY_AT, severity);
+        le::put_u32(out, ERROR_SEVERITY_AT, fields::severity_number(severity));
         le::put_u32(out, VALIDATION_BITS_AT, self.validation_bits);
         le::put_u32(out, RECORD_LENGTH_AT, self.record_length);
-        fields::put8(out, TIMESTAMP_AT, timestamp);
-        fields::put16(out, PLATFORM_ID_AT, platform_id);
-        fields::put16(out, PARTITION_ID_AT, partition_id);
+        fields::put8(out, TIMESTAMP_AT, timestamp.to_bytes(self.has_timestamp));
+        fields::put16(
+            out,
+            PLATFORM_ID_AT,
+            fields::present16(self.has_platform_id, platform_id),
+        );
+        fields::put16(
+            out,
+            PARTITION_ID_AT,
+            fields::present16(self.has_partition_id, partition_id),
+        );
         fields::put16(out, CREATOR_ID_AT, creator_id);
         fields::put16(out, NOTIFICATION_TYPE_AT, notification_type);
         le::put_u64(out, RECORD_ID_AT, self.record_id);
