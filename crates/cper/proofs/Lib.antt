@@ -1,4 +1,1 @@
-pub mod Checked
-pub mod Kept
 pub mod Packed
-pub mod Table

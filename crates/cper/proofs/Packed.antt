@@ -11,10 +11,10 @@ use Rattle.cper_record.specs.Fields.{over}
 use Rattle.cper_record.specs.Record.{headerSize, countOf}
 use Rattle.cper_record.specs.Descriptor.{descriptorSize, descriptorOf, bitsOf}
 use Rattle.cper_record.proofs.Lengths.{length-part, length-descriptor-read}
-use Rattle.cper.specs.Sections.{Section, descriptorAt, told, keeps, keptFrom, keptOf, bodyOf}
+use Rattle.cper_sections.specs.Sections.{Section, descriptorAt, told, keeps, keptFrom, keptOf, bodyOf}
 use Rattle.cper.specs.Normal.{bodySizes, bodiesAt, sizeOf, descriptorFor, descriptorsFor, bodiesOf}
 use Rattle.cper.specs.Steps.{withSection, pack}
-use Rattle.cper.proofs.Kept.{keeps-within}
+use Rattle.cper_sections.proofs.Kept.{keeps-within}
 
 -- ---- sections of the input
 

@@ -1,4 +1,3 @@
 pub mod Answers
 pub mod Normal
-pub mod Sections
 pub mod Steps

@@ -7,8 +7,9 @@ use lib.ListN.{length, drop}
 use Rattle.cper_record.specs.Record.{headerSize}
 use Rattle.cper_record.specs.Header.{headerOf, counted, normalHeader, headerBytes}
 use Rattle.cper_record.specs.Descriptor.{descriptorSize, descriptorOf, moved, normalDescriptor, descriptorBytes}
-use Rattle.cper.specs.Answers.{done, tooLong, notCper, outputShort, checked}
-use Rattle.cper.specs.Sections.{Section, descriptorAt, keptOf, bodyOf}
+use Rattle.cper_sections.specs.Answers.{done, tooLong, notCper, checked}
+use Rattle.cper.specs.Answers.{outputShort}
+use Rattle.cper_sections.specs.Sections.{Section, descriptorAt, keptOf, bodyOf}
 
 -- ---- its length
 

@@ -1,34 +1,15 @@
--- What the inner functions ask and give: one descriptor's body, one section written, all of them one after the other.
+-- What the inner functions ask and give: the sections measured, one section written, all of them one after the other.
 use Prim.Native.Nat.{ℕ, _+_, _*_, _≤_, _<_}
 use mathlib.Core.Path.{_≡_}
 use mathlib.Core.List.{List, [], _∷_}
-use mathlib.Core.Bool.{cond, true, false}
 use lib.ListN.{length}
 use Rattle.cper_record.specs.Fields.{over}
 use Rattle.cper_record.specs.Record.{headerSize}
 use Rattle.cper_record.specs.Descriptor.{descriptorSize}
-use Rattle.cper.specs.Sections.{Section, descriptorAt, told, keeps, keptOf, bodyOf}
+use Rattle.cper_sections.specs.Sections.{Section, descriptorAt, keptOf, bodyOf}
+use Rattle.cper_sections.specs.declared.Body.{Body}
 use Rattle.cper.specs.Normal.{bodySizes, sizeOf, mostOutput, descriptorFor}
-use Rattle.cper.specs.declared.Body.{Body}
-use Rattle.cper.specs.declared.Span.{Span}
 use Rattle.cper.specs.declared.Sum.{Sum}
-
--- the body of a kept section; of another, none
-unfoldable pub bodyAt : List ℕ → ℕ → Body
-bodyAt cper i =
-    cond (keeps cper i)
-    (record { kept = true; offset = told cper i .offset; size = told cper i .size })
-    (record { kept = false; offset = 0; size = 0 })
-
--- the section of a body
-abbrev pub section : ℕ → Body → Section
-section i b = record { index = i; offset = b .offset; size = b .size }
-
--- from a place's offset to its end
-abbrev pub spanOf : ℕ × (ℕ × ℕ) → Span
-spanOf place = record { start = place .1 .0; stop = place .1 .0 + place .1 .1 }
-
--- ---- the normal form
 
 -- the number of some sections and the lengths of their bodies, and that they are small
 pub record Measured (ks : List Section) (r : Sum) : Type 0 where

@@ -8,10 +8,10 @@ use native.Mathlib.Omega.{arith}
 use lib.ListN.{length, getD, drop}
 use lib.Seq.{take-all}
 use Rattle.cper_record.specs.Record.{isCper}
-use Rattle.cper.specs.Answers.{done, tooLong, notCper, mostBytes}
-use Rattle.cper.specs.Sections.{Section, keptOf, rowSize, rowsOf, listedIn, sectionsOf, placeIn, placeOf, partAt}
+use Rattle.cper_sections.specs.Answers.{done, tooLong, notCper, mostBytes}
+use Rattle.cper_sections.specs.Sections.{Section, keptOf, rowSize, rowsOf, listedIn, sectionsOf, placeIn, placeOf, partAt}
 use Rattle.cper.specs.Normal.{sizeOf, normalOf, mostOutput}
-use Rattle.cper.proofs.Checked.{a-cper, header-whole}
+use Rattle.cper_sections.proofs.Checked.{a-cper, header-whole}
 use Rattle.cper_laws.specs.Again.{bodyList}
 use Rattle.cper_laws.proofs.KeptAgain.{normal-is-cper, same-bodies}
 

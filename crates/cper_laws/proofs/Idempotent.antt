@@ -10,10 +10,10 @@ use borrow.Author.Tests.{le-leb}
 use Rattle.cper_record.specs.Record.{headerSize}
 use Rattle.cper_record.specs.Header.{headerOf, counted, normalHeader, headerBytes}
 use Rattle.cper_record.specs.declared.header.CperHeader.{CperHeader}
-use Rattle.cper.specs.Answers.{done, tooLong, notCper, mostBytes}
-use Rattle.cper.specs.Sections.{Section, keptOf}
+use Rattle.cper_sections.specs.Answers.{done, tooLong, notCper, mostBytes}
+use Rattle.cper_sections.specs.Sections.{Section, keptOf}
 use Rattle.cper.specs.Normal.{bodySizes, bodiesAt, sizeOf, headerFor, descriptorsFor, bodiesOf, recordOf, normalOf, mostOutput, packedIn, normalisedOf}
-use Rattle.cper.proofs.Checked.{a-cper}
+use Rattle.cper_sections.proofs.Checked.{a-cper}
 use Rattle.cper.proofs.Packed.{kept-inside}
 use Rattle.cper_laws.specs.Again.{repacked}
 use Rattle.cper_laws.proofs.Length.{normal-length}

@@ -11,7 +11,7 @@ use Rattle.le.proofs.Laws.{le-lt}
 use Rattle.cper_record.specs.Record.{headerSize, isCper, countOf}
 use Rattle.cper_record.specs.Header.{headerOf, counted, normalHeader}
 use Rattle.cper_record.specs.Descriptor.{descriptorSize}
-use Rattle.cper.specs.Sections.{told, keeps, keptFrom, keptOf}
+use Rattle.cper_sections.specs.Sections.{told, keeps, keptFrom, keptOf}
 use Rattle.cper.specs.Normal.{bodiesAt, sizeOf, headerFor, descriptorsFor, bodiesOf, normalOf, mostOutput}
 use Rattle.cper.proofs.Packed.{kept-inside}
 use Rattle.cper_laws.specs.Again.{repacked, bodyList}

@@ -9,7 +9,7 @@ use Rattle.cper_record.specs.Record.{headerSize}
 use Rattle.cper_record.specs.Header.{headerOf, bitsOf}
 use Rattle.cper_record.specs.Descriptor.{descriptorSize}
 use Rattle.cper_record.proofs.Lengths.{length-header-read}
-use Rattle.cper.specs.Sections.{Section, keptOf, bodyOf}
+use Rattle.cper_sections.specs.Sections.{Section, keptOf, bodyOf}
 use Rattle.cper.specs.Normal.{bodySizes, bodiesAt, sizeOf, headerFor, descriptorFor, descriptorsFor, bodiesOf, normalOf}
 use Rattle.cper.proofs.Packed.{Inside, kept-inside, length-body, length-descriptor-for}
 

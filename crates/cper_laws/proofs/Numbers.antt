@@ -4,11 +4,12 @@ use mathlib.Core.Path.{_≡_, refl, sym, ap, _∙_}
 use mathlib.Core.Bool.{cond}
 use Prim.Native.Nat.{ℕ}
 use lib.Dec.{eqb}
-use Rattle.cper.specs.Answers.{done, tooLong, notCper, listedNumbers, locatedNumbers, normalisedNumbers}
-use Rattle.cper.specs.declared.Listed.{Listed}
-use Rattle.cper.specs.declared.Listed.the-variants as listed
-use Rattle.cper.specs.declared.Located.{Located}
-use Rattle.cper.specs.declared.Located.the-variants as located
+use Rattle.cper_sections.specs.Answers.{done, tooLong, notCper, listedNumbers, locatedNumbers}
+use Rattle.cper.specs.Answers.{normalisedNumbers}
+use Rattle.cper_sections.specs.declared.Listed.{Listed}
+use Rattle.cper_sections.specs.declared.Listed.the-variants as listed
+use Rattle.cper_sections.specs.declared.Located.{Located}
+use Rattle.cper_sections.specs.declared.Located.the-variants as located
 use Rattle.cper.specs.declared.Normalised.{Normalised}
 use Rattle.cper.specs.declared.Normalised.the-variants as normalised
 

@@ -8,10 +8,11 @@ use lib.Dec.{leb}
 use lib.ListN.{length}
 use borrow.Author.Tests.{lt-leb}
 use Rattle.cper_record.specs.Record.{isCper}
-use Rattle.cper.specs.Answers.{tooLong, notCper, outputShort, mostBytes}
-use Rattle.cper.specs.Sections.{keptOf}
+use Rattle.cper_sections.specs.Answers.{tooLong, notCper, mostBytes}
+use Rattle.cper.specs.Answers.{outputShort}
+use Rattle.cper_sections.specs.Sections.{keptOf}
 use Rattle.cper.specs.Normal.{sizeOf, mostOutput, packedIn, normalisedOf}
-use Rattle.cper.proofs.Checked.{a-cper}
+use Rattle.cper_sections.proofs.Checked.{a-cper}
 
 neither-way : {A : Type 0} (t : Bool) (x y : A) → cond (t && false) x y ≡ y
 neither-way true x y = refl

@@ -12,7 +12,7 @@ use Rattle.le.specs.Le.{le}
 use Rattle.cper_record.specs.Record.{countOf}
 use Rattle.cper_record.specs.Descriptor.{descriptorSize, offsetAt, lengthAt, descriptorOf, moved, normalDescriptor, descriptorBytes}
 use Rattle.cper_record.specs.declared.descr.CperSectionDescriptor.{CperSectionDescriptor}
-use Rattle.cper.specs.Sections.{Section, descriptorAt, told, keeps, keptFrom, keptOf, bodyOf}
+use Rattle.cper_sections.specs.Sections.{Section, descriptorAt, told, keeps, keptFrom, keptOf, bodyOf}
 use Rattle.cper.specs.Normal.{bodySizes, mostOutput, descriptorFor, descriptorsFor, bodiesOf}
 use Rattle.cper.proofs.Packed.{Inside, length-body, length-descriptor-for}
 use Rattle.cper_laws.specs.Again.{repacked, bodyList}

@@ -37,11 +37,12 @@ module _ (s : List ℕ) (bytes : (k : ℕ) → getD s k 0 < 256) where
   digits-if true w at h = digits-le s bytes w at h
   digits-if false w at h = digits-zero w
 
-  -- one number moved
-  pub moved-number : (held : Bool) (w at : ℕ) (out next : List ℕ) → at + w ≤ length s → at + w ≤ length out
-      → next ≡ put w out at (numberIf held (le w s at)) → next ≡ over out at w (present held w (part s at w))
-  moved-number held w at out next h o e =
-      e ∙ put-digits w out at (numberIf held (le w s at)) o ∙ ap (λ (l : List ℕ). over out at w l) (digits-if held w at h)
+  -- one number read, left out where it is absent, and written
+  pub moved-number : (held : Bool) (w at : ℕ) (out : List ℕ) {read number : ℕ} {next : List ℕ} → at + w ≤ length s → at + w ≤ length out
+      → read ≡ le w s at → number ≡ numberIf held read → next ≡ put w out at number → next ≡ over out at w (present held w (part s at w))
+  moved-number held w at out h o r n e =
+      e ∙ ap (put w out at) (n ∙ ap (numberIf held) r)
+      ∙ put-digits w out at (numberIf held (le w s at)) o ∙ ap (λ (l : List ℕ). over out at w l) (digits-if held w at h)
 
 -- and what follows it
 pub moved-both : (s : List ℕ) (held : Bool) (n m at : ℕ) (out mid next : List ℕ) → at + n ≤ length s → at + n ≤ length out

@@ -32,9 +32,9 @@ use Rattle.encode.specs.declared.Answer.{Answer}
 use Rattle.encode.specs.declared.Answer.the-variants.{Done, BadRules, BadField, OutputShort}
 use Rattle.encode.specs.declared.Encoded.{Encoded}
 use Rattle.encode.proofs.Fitting.{can-count}
-use Rattle.crashlog.specs.Out.{writtenOf}
-use Rattle.crashlog.specs.Headers.{judgedOf, encodedOut}
-use Rattle.crashlog.specs.declared.headers.Judged.{Judged}
+use Rattle.c_answers.specs.Answers.{writtenOf}
+use Rattle.c_codec.specs.Codec.{judgedOf, encodedOut}
+use Rattle.c_codec.specs.declared.Judged.{Judged}
 
 -- ---- what a decode told
 

@@ -2,8 +2,8 @@
 use Prim.Native.Nat.{ℕ, _-_}
 use mathlib.Core.Bool.{cond}
 use mathlib.Core.List.{List, [], _∷_, _++_}
-use lib.Dec.{eqb}
-use lib.ListN.{length, replicate}
+use lib.Dec.{eqb, leb}
+use lib.ListN.{length, drop, replicate}
 use Rattle.names.specs.Ascii.{ascii}
 use Rattle.names.specs.declared.Name.{Name}
 
@@ -44,3 +44,7 @@ padded name = record { bytes = name ++ replicate (16 - length name) 0; len = len
 
 abbrev pub nameOf : ℕ → Name
 nameOf t = padded (textOf t)
+
+-- a name at the start of the output, where it fits, and its length
+unfoldable pub nameOut : List ℕ → List ℕ → List ℕ × ℕ
+nameOut name out = (cond (leb (length name) (length out)) (name ++ drop (length name) out) out, length name)

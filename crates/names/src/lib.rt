@@ -1,6 +1,6 @@
 // The names of the record types.
 ghost use mathlib.Core.Path.{_≡_};
-ghost use Rattle.names.specs.Names.{nameOf};
+ghost use Rattle.names.specs.Names.{nameOf, textOf, nameOut};
 
 pub mod record_types;
 
@@ -37,4 +37,18 @@ fn spelled(bytes: [u8; 16], len: usize) -> Name
     ensures { λ r. ⌜ r ≡ record { bytes = bytes; len = len } ⌝ }
 {
     Name { bytes, len }
+}
+
+// The length of a record type's name, which is written to the start of the output where it fits.
+pub fn write(record_type: u32, out: &mut [u8]) -> u32
+    ensures { λ r. ⌜ (now (out .exit), r) ≡ nameOut (textOf «record_type») (now (out .entry)) ⌝ }
+{
+    let name = name_of(record_type);
+    let spelled = name.bytes;
+    let len = name.len;
+    if out.len() < len {
+        return len as u32;
+    }
+    bytes::copy(&spelled[..len], out);
+    len as u32
 }

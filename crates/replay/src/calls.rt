@@ -11,10 +11,10 @@ use crate::header_words::BYTES;
 use crate::header_words::FIXED_BYTES;
 use crate::header_words::fixed_words;
 use crate::header_words::header_in;
+use c_answers::Written;
+use c_codec::decode_core;
+use c_codec::encode_core;
 use c_header::CHeader;
-use crashlog::Written;
-use crashlog::headers::decode_core;
-use crashlog::headers::encode_core;
 
 fn left_header(header: CHeader, left: &[u8]) -> bool {
     let fixed = fixed_words(header);

@@ -6,9 +6,9 @@ use Prim.Native.Nat.{_+_, _*_, _-_, _≤_, _<_}
 use native.Mathlib.Nat.{zero-add}
 use native.Mathlib.Omega.{arith}
 use lib.ListN.{length}
-use Rattle.cper.specs.Sections.{keptFrom, keptOf}
+use Rattle.cper_sections.specs.Sections.{keptFrom, keptOf}
 use Rattle.cper.specs.Normal.{bodySizes}
-use Rattle.cper.proofs.Kept.{kept-start, kept-next, left-out, kept-end, body-within}
+use Rattle.cper_sections.proofs.Kept.{kept-start, Turn, here, after, kept-next, left-out, kept-end, body-within}
 use borrow.Author.Needs.{needs}
 use Rattle.cper.proofs.measure.Statement.{statement}
 use Rattle.cper.proofs.measure.Tie as tie
@@ -18,6 +18,18 @@ Inv-loop cper count kept₀ bodies₀ index₀ kept bodies index = (count < 6553
 
 abbrev μ-loop : tie.MeasureT-loop
 μ-loop cper count kept₀ bodies₀ index₀ kept bodies index = count - index
+
+-- a turn of the loop
+abbrev turn : tie.After-body-at Inv-loop μ-loop → Turn
+turn c =
+    record {
+      cper = c .before .before .before .before .before .args .cper .now;
+      index = c .before .before .loop .index;
+      count = c .before .before .before .section-count .result;
+      body = c .body-at .result;
+      more = c .before .loop-test .taken;
+      is = c .body-at .ensures;
+    }
 
 section-count-requires : tie.Need-section-count-requires Inv-loop μ-loop
 section-count-requires c κs = search needs
@@ -51,24 +63,18 @@ loop-less c = search needs
 loop-again : tie.Need-loop-again Inv-loop μ-loop
 unfolding bodySizes
 loop-again c =
+    let t = turn (c .before) in
     let l = c .before .before .before .loop in
-    let cper = c .before .before .before .before .before .before .args .cper .now in
-    let count = c .before .before .before .before .section-count .result in
-    let b = c .before .body-at .result in
-    let rest = keptFrom cper (l .index + 1) (count - (l .index + 1)) in
-    let here = keptFrom cper (l .index) (count - l .index) in
-    let step : (c .if1 .kept ≤ l .index + 1) × (c .if1 .bodies ≤ (l .index + 1) * 1048576) × (c .if1 .kept + length rest ≡ l .kept + length here) × (c .if1 .bodies + bodySizes rest ≡ l .bodies + bodySizes here) =
+    let step : (c .if1 .kept ≤ l .index + 1) × (c .if1 .bodies ≤ (l .index + 1) * 1048576) × (c .if1 .kept + length (after t) ≡ l .kept + length (here t)) × (c .if1 .bodies + bodySizes (after t) ≡ l .bodies + bodySizes (here t)) =
     ⊎-elim
     (λ q.
-    let e = kept-next cper (l .index) count (c .before .before .loop-test .taken) b (c .before .body-at .ensures) (q .0 .taken) in
-    let within = body-within cper (l .index) b (c .before .body-at .ensures) (q .0 .taken) in
-    let more = ap length e in
-    let longer = ap bodySizes e in
+    let within = body-within t (q .0 .taken) in
+    let more = ap length (kept-next t (q .0 .taken)) in
+    let longer = ap bodySizes (kept-next t (q .0 .taken)) in
     rw (q .2, q .3) (omega arith, omega arith, omega arith, omega arith))
     (λ q.
-    let e = left-out cper (l .index) count (c .before .before .loop-test .taken) b (c .before .body-at .ensures) (q .0 .left) in
-    let more = ap length e in
-    let longer = ap bodySizes e in
+    let more = ap length (left-out t (q .0 .left)) in
+    let longer = ap bodySizes (left-out t (q .0 .left)) in
     rw (q .1, q .2) (omega arith, omega arith, omega arith, omega arith))
     (c .if1 .came) in
     (omega arith, omega arith, step .0, step .1, step .2 ∙ l .inv .4, step .3 ∙ l .inv .5)

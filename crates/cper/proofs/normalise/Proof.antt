@@ -3,9 +3,9 @@
 use mathlib.Core.Path.{sym, _∙_}
 use native.Mathlib.Omega.{arith}
 use borrow.Author.Tests.{not-true, not-false}
-use Rattle.cper.specs.Answers.{tooLong, notCper}
+use Rattle.cper_sections.specs.Answers.{tooLong, notCper}
 use Rattle.cper.specs.Normal.{packedIn, normalisedOf}
-use Rattle.cper.proofs.Checked.{over-long, no-cper, a-cper, header-whole}
+use Rattle.cper_sections.proofs.Checked.{over-long, no-cper, a-cper, header-whole}
 use borrow.Author.Needs.{needs}
 use Rattle.cper.proofs.normalise.Statement.{statement}
 use Rattle.cper.proofs.normalise.Tie as tie

@@ -9,8 +9,9 @@ use borrow.Author.Tests.{le-leb, lt-leb}
 use Rattle.cper_record.specs.Record.{headerSize}
 use Rattle.cper_record.specs.Header.{headerOf, counted, normalHeader, headerBytes, bitsOf}
 use Rattle.cper_record.proofs.Lengths.{length-header-read}
-use Rattle.cper.specs.Answers.{done, outputShort}
-use Rattle.cper.specs.Sections.{descriptorAt, keptOf}
+use Rattle.cper_sections.specs.Answers.{done}
+use Rattle.cper.specs.Answers.{outputShort}
+use Rattle.cper_sections.specs.Sections.{descriptorAt, keptOf}
 use Rattle.cper.specs.Normal.{bodiesAt, sizeOf, headerFor, normalOf, mostOutput, packedIn}
 use Rattle.cper.specs.Steps.{pack}
 use Rattle.cper.proofs.Packed.{kept-inside, packed}

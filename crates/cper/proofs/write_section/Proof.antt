@@ -10,9 +10,10 @@ use borrow.Rule.Slice.PartMut.{putMid}
 use Rattle.cper_record.specs.Fields.{over}
 use Rattle.cper_record.specs.Descriptor.{descriptorSize, descriptorOf, moved, normalDescriptor, descriptorBytes}
 use Rattle.cper_record.proofs.Copies.{written-through, tail-part}
-use Rattle.cper.specs.Sections.{Section, descriptorAt, bodyOf}
+use Rattle.cper_sections.specs.Sections.{Section, descriptorAt, bodyOf}
 use Rattle.cper.specs.Normal.{descriptorFor}
-use Rattle.cper.specs.Steps.{section, withSection}
+use Rattle.cper_sections.specs.Steps.{section}
+use Rattle.cper.specs.Steps.{withSection}
 use borrow.Author.Needs.{needs}
 use Rattle.cper.proofs.write_section.Statement.{statement}
 use Rattle.cper.proofs.write_section.Tie as tie

@@ -7,10 +7,10 @@ use Prim.Native.Nat.{ℕ, _+_, _-_, _≤_, _<_}
 use native.Mathlib.Nat.{zero-add}
 use native.Mathlib.Omega.{arith}
 use lib.ListN.{length}
-use Rattle.cper.specs.Sections.{Section, descriptorAt, keptFrom, keptOf}
+use Rattle.cper_sections.specs.Sections.{Section, descriptorAt, keptFrom, keptOf}
 use Rattle.cper.specs.Normal.{bodySizes, bodiesAt, sizeOf}
 use Rattle.cper.specs.Steps.{pack}
-use Rattle.cper.proofs.Kept.{kept-start, kept-next, left-out, kept-end, body-within}
+use Rattle.cper_sections.proofs.Kept.{kept-start, Turn, here, after, kept-next, left-out, kept-end, body-within}
 use borrow.Author.Needs.{needs}
 use Rattle.cper.proofs.write_sections.Statement.{statement}
 use Rattle.cper.proofs.write_sections.Tie as tie
@@ -20,6 +20,18 @@ Inv-loop cper out₀ kept count row₀ to₀ index₀ out row to index = (count 
 
 abbrev μ-loop : tie.MeasureT-loop
 μ-loop cper out₀ kept count row₀ to₀ index₀ out row to index = count - index
+
+-- a turn of the loop
+abbrev turn : tie.After-body-at Inv-loop μ-loop → Turn
+turn c =
+    record {
+      cper = c .before .before .before .before .before .before .before .args .cper .now;
+      index = c .before .before .loop .index;
+      count = c .before .before .before .before .section-count .result;
+      body = c .body-at .result;
+      more = c .before .loop-test .taken;
+      is = c .body-at .ensures;
+    }
 
 section-count-requires : tie.Need-section-count-requires Inv-loop μ-loop
 section-count-requires c κs = search needs
@@ -51,13 +63,11 @@ body-at-requires c κs = search needs
 write-section-requires : tie.Need-write-section-requires Inv-loop μ-loop
 unfolding bodySizes
 write-section-requires c κs =
+    let t = turn (c .before .before) in
     let l = c .before .before .before .before .loop in
-    let cper = c .before .before .before .before .before .before .before .before .before .args .cper .now in
-    let b = c .before .before .body-at .result in
-    let e = kept-next cper (l .index) (c .before .before .before .before .before .before .section-count .result) (c .before .before .before .loop-test .taken) b (c .before .before .body-at .ensures) (c .before .if1 .taken) in
-    let within = body-within cper (l .index) b (c .before .before .body-at .ensures) (c .before .if1 .taken) in
-    let many = ap length e in
-    let long = ap bodySizes e in
+    let within = body-within t (c .before .if1 .taken) in
+    let many = ap length (kept-next t (c .before .if1 .taken)) in
+    let long = ap bodySizes (kept-next t (c .before .if1 .taken)) in
     let room = c .before .before .before .before .before .before .before .before .before .pre in
     record {
       few = (omega arith, omega arith);
@@ -86,31 +96,26 @@ loop-less c = search needs
 loop-again : tie.Need-loop-again Inv-loop μ-loop
 unfolding bodySizes pack
 loop-again c =
+    let t = turn (c .before) in
     let l = c .before .before .before .loop in
-    let cper = c .before .before .before .before .before .before .before .before .args .cper .now in
-    let count = c .before .before .before .before .before .section-count .result in
-    let b = c .before .body-at .result in
-    let rest = keptFrom cper (l .index + 1) (count - (l .index + 1)) in
-    let here = keptFrom cper (l .index) (count - l .index) in
-    let step : (c .if1 .row ≤ l .index + 1) × (length (c .if1 .out) ≡ length (l .out)) × (c .if1 .row + length rest ≡ l .row + length here) × (c .if1 .to + bodySizes rest ≡ l .to + bodySizes here) × (pack cper (c .if1 .out) (c .if1 .row) (c .if1 .to) rest ≡ pack cper (l .out) (l .row) (l .to) here) =
+    let step : (c .if1 .row ≤ l .index + 1) × (length (c .if1 .out) ≡ length (l .out)) × (c .if1 .row + length (after t) ≡ l .row + length (here t)) × (c .if1 .to + bodySizes (after t) ≡ l .to + bodySizes (here t)) × (pack (t .cper) (c .if1 .out) (c .if1 .row) (c .if1 .to) (after t) ≡ pack (t .cper) (l .out) (l .row) (l .to) (here t)) =
     ⊎-elim
     (λ q.
-    let e = kept-next cper (l .index) count (c .before .before .loop-test .taken) b (c .before .body-at .ensures) (q .0 .taken) in
+    let e = kept-next t (q .0 .taken) in
     let more = ap length e in
     let longer = ap bodySizes e in
-    let same : length (c .if1 .out) ≡ length (l .out) = ap length (q .6) ∙ q .2 .kept .1 .1 .1 .0 in
     rw (q .7, q .8) (
       omega arith,
-      same,
+      ap length (q .6) ∙ q .2 .kept .1 .1 .1 .0,
       omega arith,
       omega arith,
-      ap (λ (o : List ℕ). pack cper o (l .row + 1) (l .to + b .size) rest) (q .6 ∙ q .2 .ensures) ∙ ap (pack cper (l .out) (l .row) (l .to)) (sym e),
+      ap (λ (o : List ℕ). pack (t .cper) o (l .row + 1) (l .to + t .body .size) (after t)) (q .6 ∙ q .2 .ensures) ∙ ap (pack (t .cper) (l .out) (l .row) (l .to)) (sym e),
     ))
     (λ q.
-    let e = left-out cper (l .index) count (c .before .before .loop-test .taken) b (c .before .body-at .ensures) (q .0 .left) in
+    let e = left-out t (q .0 .left) in
     let more = ap length e in
     let longer = ap bodySizes e in
-    rw (q .1, q .2, q .3) (omega arith, refl, omega arith, omega arith, ap (pack cper (l .out) (l .row) (l .to)) (sym e)))
+    rw (q .1, q .2, q .3) (omega arith, refl, omega arith, omega arith, ap (pack (t .cper) (l .out) (l .row) (l .to)) (sym e)))
     (c .if1 .came) in
     (omega arith, omega arith, step .0, step .1 ∙ l .inv .3, step .2 ∙ l .inv .4, step .3 ∙ l .inv .5, step .4 ∙ l .inv .6)
 

@@ -1,7 +1,7 @@
 -- `crashlog_section` gives the answer as C has it.
 -- By its number and values. Assumes nothing.
 use mathlib.Core.Path.{_≡_, ap, _∙_}
-use Rattle.crashlog.specs.Out.{partOf}
+use Rattle.c_answers.specs.Answers.{partOf}
 use borrow.Author.Needs.{needs}
 use Rattle.crashlog.proofs.crashlog_section.Statement.{statement}
 use Rattle.crashlog.proofs.crashlog_section.Tie as tie

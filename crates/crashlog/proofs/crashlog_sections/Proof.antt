@@ -1,6 +1,6 @@
 -- `crashlog_sections` gives the answer as C has it.
 -- By its number and values. Assumes nothing.
-use Rattle.crashlog.specs.Out.{tableOf}
+use Rattle.c_answers.specs.Answers.{tableOf}
 use Rattle.crashlog.proofs.Out.{put-out}
 use borrow.Author.Needs.{needs}
 use Rattle.crashlog.proofs.crashlog_sections.Statement.{statement}

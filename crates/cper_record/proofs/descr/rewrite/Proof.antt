@@ -15,32 +15,36 @@ use borrow.Author.Needs.{needs}
 use Rattle.cper_record.proofs.descr.rewrite.Statement.{statement}
 use Rattle.cper_record.proofs.descr.rewrite.Tie as tie
 
--- a part of the descriptor's bytes lies in the input
-inside : (c : tie.Start) (n : ℕ) → T (leb n descriptorSize) → n ≤ length (c .args .s .now)
-inside c n h = within n descriptorSize (length (c .args .s .now)) h (c .pre .0)
+-- where the validation number was read, and before it
+abbrev read : tie.After-put-start → tie.After-u8-at
+read c = c .before .before .before .before .before
 
 abbrev first : tie.After-put-start → tie.Start
-first c = c .before .before .before .before .before .before .before .before
+first c = read c .before .before .before
+
+-- a part of the descriptor's bytes lies in the input
+inside : (c : tie.After-put-start) (n : ℕ) → T (leb n descriptorSize) → n ≤ length (first c .args .s .now)
+inside c n h = within n descriptorSize (length (first c .args .s .now)) h (first c .pre .0)
 
 -- ---- what is laid out after each write
 
 abbrev start : (c : tie.After-put-start) → Laid descriptorSize 16 (c .put-start .last .0)
 start c =
     let a = first c .args in
-    let bits = c .before .before .before .before .before .u8-at .ensures in
     laid-start (a .out .now) (first c .pre .1) (a .offset) (c .put-start .ensures) (c .before .before .before .u32-at .ensures) (c .before .before .u16-at .ensures)
-    (ap (λ (b : ℕ). b % 4) bits ∙ known-bits (le 1 (a .s .now) 10)) (c .before .u32-at2 .ensures)
+    (ap (λ (b : ℕ). b % 4) (read c .u8-at .ensures) ∙ known-bits (le 1 (a .s .now) 10)) (c .before .u32-at2 .ensures)
 
 abbrev type : (c : tie.After-move16) → Laid descriptorSize 32 (c .move16 .last .1 .1 .0)
 type c =
-    let a = first (c .before .before .before .before) in
-    laid-bytes (start (c .before .before .before .before)) 16 (c .move16 .ensures, length-part (a .args .s .now) 16 16 (inside a 32 tt)) refl
+    let began = c .before .before .before .before in
+    laid-bytes (start began) 16 (c .move16 .ensures, length-part (first began .args .s .now) 16 16 (inside began 32 tt)) refl
 
 abbrev fru : (c : tie.After-move162) → Laid descriptorSize 48 (c .move162 .last .1 .1 .0)
 fru c =
-    let a = c .before .before .before .before .before .before .before .before .before .before .before .before .before .before in
-    laid-moved (type (c .before .before .before .before .before)) 16 (a .before .before .before .args .s .now) _ (inside (a .before .before .before) 48 tt) (c .move162 .ensures)
-    (c .before .before .has-bit .ensures ∙ ap (λ (b : ℕ). has b fruIdBit) (a .u8-at .ensures))
+    let before = c .before .before .before .before .before in
+    let began = before .before .before .before .before in
+    laid-moved (type before) 16 (first began .args .s .now) _ (inside began 48 tt) (c .move162 .ensures)
+    (c .before .before .has-bit .ensures ∙ ap (λ (b : ℕ). has b fruIdBit) (read began .u8-at .ensures))
 
 abbrev severity : (c : tie.After-put-u32) → Laid descriptorSize 52 (c .put-u32 .last .0)
 severity c =
@@ -49,9 +53,10 @@ severity c =
 
 abbrev text : (c : tie.After-move20) → Laid descriptorSize 72 (c .move20 .last .1 .1 .0)
 text c =
-    let a = c .before .before .before .before .before .before .before .before .before .before .before .before .before .before .before .before .before .before .before .before .before .before .before .before .before .before in
-    laid-moved (severity (c .before .before .before .before .before)) 20 (a .before .before .before .args .s .now) _ (inside (a .before .before .before) 72 tt) (c .move20 .ensures)
-    (c .before .before .has-bit2 .ensures ∙ ap (λ (b : ℕ). has b fruTextBit) (a .u8-at .ensures))
+    let before = c .before .before .before .before .before in
+    let began = before .before .before .before .before .before .before .before .before .before .before .before .before .before .before .before .before in
+    laid-moved (severity before) 20 (first began .args .s .now) _ (inside began 72 tt) (c .move20 .ensures)
+    (c .before .before .has-bit2 .ensures ∙ ap (λ (b : ℕ). has b fruTextBit) (read began .u8-at .ensures))
 
 -- ---- the needs
 
@@ -71,7 +76,7 @@ put-start-requires : tie.Need-put-start-requires
 put-start-requires c κs = search needs
 
 move16-requires : tie.Need-move16-requires
-move16-requires c κs = (inside (first (c .before .before .before)) 32 tt, room-for (start (c .before .before .before)) 16 tt)
+move16-requires c κs = (inside (c .before .before .before) 32 tt, room-for (start (c .before .before .before)) 16 tt)
 
 cast-has-bit : tie.Need-cast-has-bit
 cast-has-bit c = search needs
@@ -80,10 +85,10 @@ has-bit-requires : tie.Need-has-bit-requires
 has-bit-requires c κs = search needs
 
 move16-requires-2 : tie.Need-move16-requires-2
-move16-requires-2 c κs = (inside (first (c .before .before .before .before .before .before .before .before)) 48 tt, room-for (type (c .before .before .before .before)) 16 tt)
+move16-requires-2 c κs = (inside (c .before .before .before .before .before .before .before .before) 48 tt, room-for (type (c .before .before .before .before)) 16 tt)
 
 u32-at-requires-3 : tie.Need-u32-at-requires-3
-u32-at-requires-3 c κs = inside (first (c .before .before .before .before .before .before .before .before .before .before .before)) 52 tt
+u32-at-requires-3 c κs = inside (c .before .before .before .before .before .before .before .before .before .before .before) 52 tt
 
 severity-of-requires : tie.Need-severity-of-requires
 severity-of-requires c κs = search needs
@@ -101,7 +106,7 @@ has-bit-requires-2 : tie.Need-has-bit-requires-2
 has-bit-requires-2 c κs = search needs
 
 move20-requires : tie.Need-move20-requires
-move20-requires c κs = (inside (first (c .before .before .before .before .before .before .before .before .before .before .before .before .before .before .before .before .before .before .before .before)) 72 tt, room-for (severity (c .before .before .before .before)) 20 tt)
+move20-requires c κs = (inside (c .before .before .before .before .before .before .before .before .before .before .before .before .before .before .before .before .before .before .before .before) 72 tt, room-for (severity (c .before .before .before .before)) 20 tt)
 
 same-length : tie.Need-same-length
 same-length c = length-laid (text (c .before .before)) tt

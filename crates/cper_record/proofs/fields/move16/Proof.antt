@@ -1,11 +1,8 @@
 -- `move16` moves two numbers of eight bytes.
 -- Assumes nothing.
-use mathlib.Core.Path.{ap, _∙_}
 use Prim.Native.Nat.{ℕ, _+_, _<_}
 use native.Mathlib.Omega.{arith}
 use lib.ListN.{getD}
-use Rattle.le.specs.Le.{put}
-use Rattle.cper_record.specs.Fields.{numberIf}
 use Rattle.cper_record.proofs.Moves.{moved-number, moved-both}
 use borrow.Author.Needs.{needs}
 use Rattle.cper_record.proofs.fields.move16.Statement.{statement}
@@ -40,16 +37,13 @@ same-length c = search needs
 
 returns : tie.Need-returns
 returns c =
-    let a = c .before .before .before .before .before .before .before .before .before .before .before .before .before .before .args in
+    let first = c .before .before .before .before .before .before .before .before in
+    let a = first .before .before .before .before .before .before .args in
     let s = a .s .now in
-    let out = a .out .now in
-    let mid = c .before .before .before .before .before .before .before .before .put-u64 .last .0 in
-    let bytes : (k : ℕ) → getD s k 0 < 256 = λ k. c .before .before .before .before .before .before .before .before .before .before .before .before .before .shared-slice-known .given k .fits in
-    let low = moved-number s bytes (a .held) 8 (a .at) out mid (omega arith) (omega arith)
-    (c .before .before .before .before .before .before .before .before .put-u64 .ensures ∙ ap (put 8 out (a .at)) (c .before .before .before .before .before .before .before .before .before .long-if .ensures ∙ ap (numberIf (a .held)) (c .before .before .before .before .before .before .before .before .before .before .u64-at .ensures))) in
-    let high = moved-number s bytes (a .held) 8 (a .at + 8) mid (c .before .before .put-u642 .last .0) (omega arith) (omega (arith, c .before .before .before .before .before .before .before .before .put-u64 .kept .0))
-    (c .before .before .put-u642 .ensures ∙ ap (put 8 mid (a .at + 8)) (c .before .before .before .long-if2 .ensures ∙ ap (numberIf (a .held)) (c .before .before .before .before .u64-at2 .ensures))) in
-    moved-both s (a .held) 8 8 (a .at) out mid (c .before .before .put-u642 .last .0) (omega arith) (omega arith) low high
+    let bytes : (k : ℕ) → getD s k 0 < 256 = λ k. first .before .before .before .before .before .shared-slice-known .given k .fits in
+    moved-both s (a .held) 8 8 (a .at) (a .out .now) (first .put-u64 .last .0) (c .before .before .put-u642 .last .0) (omega arith) (omega arith)
+    (moved-number s bytes (a .held) 8 (a .at) (a .out .now) (omega arith) (omega arith) (first .before .before .u64-at .ensures) (first .before .long-if .ensures) (first .put-u64 .ensures))
+    (moved-number s bytes (a .held) 8 (a .at + 8) (first .put-u64 .last .0) (omega arith) (omega (arith, first .put-u64 .kept .0)) (c .before .before .before .before .u64-at2 .ensures) (c .before .before .before .long-if2 .ensures) (c .before .before .put-u642 .ensures))
 
 pub move16-spec : {M : Type 1} → statement M
 move16-spec =

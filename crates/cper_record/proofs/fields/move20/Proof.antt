@@ -1,11 +1,8 @@
 -- `move20` moves a number of four bytes, and then sixteen bytes.
 -- Assumes nothing.
-use mathlib.Core.Path.{ap, _∙_}
 use Prim.Native.Nat.{ℕ, _<_}
 use native.Mathlib.Omega.{arith}
 use lib.ListN.{getD}
-use Rattle.le.specs.Le.{put}
-use Rattle.cper_record.specs.Fields.{numberIf}
 use Rattle.cper_record.proofs.Moves.{moved-number, moved-both}
 use borrow.Author.Needs.{needs}
 use Rattle.cper_record.proofs.fields.move20.Statement.{statement}
@@ -31,14 +28,13 @@ same-length c = search needs
 
 returns : tie.Need-returns
 returns c =
-    let a = c .before .before .before .before .before .before .before .before .before .before .before .before .args in
+    let first = c .before .before .before .before .before .before in
+    let a = first .before .before .before .before .before .before .args in
     let s = a .s .now in
-    let out = a .out .now in
-    let mid = c .before .before .before .before .before .before .put-u32 .last .0 in
-    let bytes : (k : ℕ) → getD s k 0 < 256 = λ k. c .before .before .before .before .before .before .before .before .before .before .before .shared-slice-known .given k .fits in
-    let low = moved-number s bytes (a .held) 4 (a .at) out mid (omega arith) (omega arith)
-    (c .before .before .before .before .before .before .put-u32 .ensures ∙ ap (put 4 out (a .at)) (c .before .before .before .before .before .before .before .number-if .ensures .0 ∙ ap (numberIf (a .held)) (c .before .before .before .before .before .before .before .before .u32-at .ensures))) in
-    moved-both s (a .held) 4 16 (a .at) out mid (c .before .before .move16 .last .1 .1 .0) (omega arith) (omega arith) low (c .before .before .move16 .ensures)
+    let bytes : (k : ℕ) → getD s k 0 < 256 = λ k. first .before .before .before .before .before .shared-slice-known .given k .fits in
+    moved-both s (a .held) 4 16 (a .at) (a .out .now) (first .put-u32 .last .0) (c .before .before .move16 .last .1 .1 .0) (omega arith) (omega arith)
+    (moved-number s bytes (a .held) 4 (a .at) (a .out .now) (omega arith) (omega arith) (first .before .before .u32-at .ensures) (first .before .number-if .ensures .0) (first .put-u32 .ensures))
+    (c .before .before .move16 .ensures)
 
 pub move20-spec : {M : Type 1} → statement M
 move20-spec =

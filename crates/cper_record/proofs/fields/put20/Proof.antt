@@ -1,10 +1,7 @@
 -- `put20` writes its 20 bytes.
--- Assumes nothing.
-use mathlib.Core.Path.{_≡_, ap, _∙_}
-use Prim.Native.Nat.{ℕ}
+-- By what `put_bytes` writes. Assumes nothing.
 use native.Mathlib.Omega.{arith}
-use lib.ListN.{length}
-use Rattle.cper_record.specs.Fields.{over}
+use Rattle.cper_record.proofs.Copies.{field-written}
 use borrow.Author.Needs.{needs}
 use Rattle.cper_record.proofs.fields.put20.Statement.{statement}
 use Rattle.cper_record.proofs.fields.put20.Tie as tie
@@ -21,8 +18,7 @@ same-length c = search needs
 returns : tie.Need-returns
 returns c =
     let a = c .before .before .before .before .before .before .args in
-    let size : length (a .t3) ≡ 20 = omega arith in
-    (c .before .before .put-bytes .ensures ∙ ap (λ (n : ℕ). over (a .out .now) (a .at) n (a .t3)) size, size)
+    field-written (a .out .now) (a .t3) _ (a .at) 20 (omega arith) (c .before .before .put-bytes .ensures)
 
 pub put20-spec : {M : Type 1} → statement M
 put20-spec = tie.close (tie.spec slice-aggregate-put-bytes put-bytes-requires same-length returns)

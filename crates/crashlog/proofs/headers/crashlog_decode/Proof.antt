@@ -42,20 +42,20 @@ use denote.Triple.Table.{entered, cited}
 use denote.Triple.Walked.{says, Stays, stay-ref, stay-none-slice, walkOf, goes-ref, goes-none-slice, Walks, ends-at, walked, walk-meets}
 use denote.Exit.{yes}
 use Rattle.header.specs.Header.{decodedOf}
-use Rattle.crashlog.specs.Headers.{decodeOut}
+use Rattle.c_codec.specs.Codec.{decodeOut}
 use Rattle.c_header.specs.declared.CHeader.{CHeader}
 use Rattle.c_header.proofs.CHeader as T
 use Rattle.c_header.proofs.CHeader.Laws as T′
-use Rattle.crashlog.specs.declared.headers.Judged.{Judged}
-use Rattle.crashlog.proofs.headers.Judged as J
-use Rattle.crashlog.proofs.headers.Judged.Laws as J′
-use Rattle.crashlog.specs.declared.headers.Decoded.{Decoded}
-use Rattle.crashlog.proofs.headers.Decoded as D
-use Rattle.crashlog.proofs.headers.Decoded.Laws as D′
-use Rattle.crashlog.proofs.headers.decode_core as core
-use Rattle.crashlog.proofs.headers.decode_core.Symbol as core-def
-use Rattle.crashlog.proofs.headers.decode_core.Symbol.{name as #decode-core}
-use Rattle.crashlog.proofs.headers.decode_core.Met as core-thm
+use Rattle.c_codec.specs.declared.Judged.{Judged}
+use Rattle.c_codec.proofs.Judged as J
+use Rattle.c_codec.proofs.Judged.Laws as J′
+use Rattle.c_codec.specs.declared.Decoded.{Decoded}
+use Rattle.c_codec.proofs.Decoded as D
+use Rattle.c_codec.proofs.Decoded.Laws as D′
+use Rattle.c_codec.proofs.decode_core as core
+use Rattle.c_codec.proofs.decode_core.Symbol as core-def
+use Rattle.c_codec.proofs.decode_core.Symbol.{name as #decode-core}
+use Rattle.c_codec.proofs.decode_core.Met as core-thm
 use Rattle.crashlog.proofs.headers.crashlog_decode.Key.{name as #crashlog-decode}
 use Rattle.crashlog.proofs.headers.crashlog_decode as f
 use Rattle.crashlog.proofs.headers.crashlog_decode.Statement as stated
@@ -182,4 +182,4 @@ crashlog-decode-spec 𝓤 H 𝓜 𝓖 𝓡 =
     entered 𝓤 H (tripleOf 𝓤 H (𝓖 .A) f.signature (f.spec 𝓤 H (𝓖 .A) (𝓜 .mem) (𝓡 .run)))
     (tables 𝓤 H 𝓜 𝓡 code.env .C) (tables 𝓤 H 𝓜 𝓡 code.env .Λ) #crashlog-decode code.function (code.unfolded 𝓤 H 𝓜 𝓡)
     (meets 𝓤 H (𝓖 .A) (givenOf 𝓤 H 𝓜 𝓖) (𝓜 .mem) (𝓡 .run) (tablesOf 𝓤 H 𝓜 (tables 𝓤 H 𝓜 𝓡 code.env))
-    (cited 𝓤 H (Core 𝓤 H (𝓖 .A) (𝓜 .mem) (𝓡 .run)) 𝓜 𝓡 code.env #decode-core core-def.routine code.calls-crashlog·headers·decode-core (core-thm.met 𝓤 H 𝓜 𝓖 𝓡)))
+    (cited 𝓤 H (Core 𝓤 H (𝓖 .A) (𝓜 .mem) (𝓡 .run)) 𝓜 𝓡 code.env #decode-core core-def.routine code.calls-c-codec·decode-core (core-thm.met 𝓤 H 𝓜 𝓖 𝓡)))

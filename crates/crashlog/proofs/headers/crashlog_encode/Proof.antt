@@ -39,17 +39,17 @@ use denote.Triple.Clauses.{ensured, lasts}
 use denote.Triple.Table.{entered, cited}
 use denote.Triple.Walked.{says, Stays, stay-none-ref, stay-none-slice, gave-slice, walkOf, goes-none-ref, goes-none-slice, goes-gave-slice, Walks, ends-at, walked, walk-meets}
 use denote.Exit.{yes}
-use Rattle.crashlog.specs.Headers.{encodeOut}
+use Rattle.c_codec.specs.Codec.{encodeOut}
 use Rattle.c_header.specs.declared.CHeader.{CHeader}
 use Rattle.c_header.proofs.CHeader as T
 use Rattle.c_header.proofs.CHeader.Laws as T′
-use Rattle.crashlog.specs.declared.Written.{Written}
-use Rattle.crashlog.proofs.Written as N
-use Rattle.crashlog.proofs.Written.Laws as N′
-use Rattle.crashlog.proofs.headers.encode_core as core
-use Rattle.crashlog.proofs.headers.encode_core.Symbol as core-def
-use Rattle.crashlog.proofs.headers.encode_core.Symbol.{name as #encode-core}
-use Rattle.crashlog.proofs.headers.encode_core.Met as core-thm
+use Rattle.c_answers.specs.declared.Written.{Written}
+use Rattle.c_answers.proofs.Written as N
+use Rattle.c_answers.proofs.Written.Laws as N′
+use Rattle.c_codec.proofs.encode_core as core
+use Rattle.c_codec.proofs.encode_core.Symbol as core-def
+use Rattle.c_codec.proofs.encode_core.Symbol.{name as #encode-core}
+use Rattle.c_codec.proofs.encode_core.Met as core-thm
 use Rattle.crashlog.proofs.headers.crashlog_encode.Key.{name as #crashlog-encode}
 use Rattle.crashlog.proofs.headers.crashlog_encode as f
 use Rattle.crashlog.proofs.headers.crashlog_encode.Statement as stated
@@ -160,4 +160,4 @@ crashlog-encode-spec 𝓤 H 𝓜 𝓖 𝓡 =
     entered 𝓤 H (tripleOf 𝓤 H (𝓖 .A) f.signature (f.spec 𝓤 H (𝓖 .A) (𝓜 .mem) (𝓡 .run)))
     (tables 𝓤 H 𝓜 𝓡 code.env .C) (tables 𝓤 H 𝓜 𝓡 code.env .Λ) #crashlog-encode code.function (code.unfolded 𝓤 H 𝓜 𝓡)
     (meets 𝓤 H (𝓖 .A) (givenOf 𝓤 H 𝓜 𝓖) (𝓜 .mem) (𝓡 .run) (tablesOf 𝓤 H 𝓜 (tables 𝓤 H 𝓜 𝓡 code.env))
-    (cited 𝓤 H (Core 𝓤 H (𝓖 .A) (𝓜 .mem) (𝓡 .run)) 𝓜 𝓡 code.env #encode-core core-def.routine code.calls-crashlog·headers·encode-core (core-thm.met 𝓤 H 𝓜 𝓖 𝓡)))
+    (cited 𝓤 H (Core 𝓤 H (𝓖 .A) (𝓜 .mem) (𝓡 .run)) 𝓜 𝓡 code.env #encode-core core-def.routine code.calls-c-codec·encode-core (core-thm.met 𝓤 H 𝓜 𝓖 𝓡)))

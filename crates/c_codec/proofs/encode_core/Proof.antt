@@ -1,0 +1,113 @@
+-- `encode_core` answers as C has it, and writes what the encoder writes.
+-- By its tests, in their order. Assumes nothing.
+use mathlib.Core.Path.{_≡_, sym, ap, _∙_}
+use mathlib.Core.Bool.{true, false}
+use mathlib.Core.List.{List}
+use Prim.Native.Nat.{ℕ, _%_}
+use borrow.Author.Tests.{not-true, not-false}
+use Rattle.rules.specs.Rules.{validOf}
+use Rattle.header.specs.declared.Header.{Header}
+use Rattle.encode.specs.Encode.{numberOf, encodedOf}
+use Rattle.encode.specs.declared.Encoded.{Encoded}
+use Rattle.c_header.specs.Header.{takenOf}
+use Rattle.c_header.specs.declared.CHeader.{CHeader}
+use Rattle.c_header.specs.declared.Taken.{Taken}
+use Rattle.c_answers.specs.Answers.{writtenOf}
+use Rattle.c_codec.specs.Codec.{encodedOut, encodeOut}
+use Rattle.c_answers.specs.declared.Written.{Written}
+use borrow.Author.Needs.{needs}
+use Rattle.c_codec.proofs.encode_core.Statement.{statement}
+use Rattle.c_codec.proofs.encode_core.Tie as tie
+
+abbrev pair : List ℕ → Written → List ℕ × Written
+pair out r = (out, r)
+
+abbrev end-of : List ℕ → Encoded → List ℕ × Encoded
+end-of out r = (out, r)
+
+module _ (rules : List ℕ) (h : CHeader) (out : List ℕ) where
+  bad-rules : {r : Written} → validOf rules ≡ false → r ≡ writtenOf (2, 0) → pair out r ≡ encodeOut rules h out
+  unfolding encodeOut
+  bad-rules v f = rw (v, f)
+
+  bad-field : {t : Taken} {r : Written} → validOf rules ≡ true → t ≡ takenOf h → t .ok ≡ false → r ≡ writtenOf (11, 0)
+      → pair out r ≡ encodeOut rules h out
+  unfolding encodeOut
+  bad-field v t s f = rw (v, sym (ap (λ (t : Taken). t .ok) t) ∙ s, f)
+
+  encoded : {t : Taken} {end : List ℕ} {e : Encoded} {number n : ℕ} {r : Written} → validOf rules ≡ true → t ≡ takenOf h → t .ok ≡ true
+      → end-of end e ≡ encodedOf rules (t .header) out → number ≡ numberOf (e .answer) → n ≡ e .length % 4294967296
+      → r ≡ writtenOf (number, n) → pair end r ≡ encodeOut rules h out
+  unfolding encodeOut
+  encoded v t s e n l f =
+      rw (v, sym (ap (λ (t : Taken). t .ok) t) ∙ s, f, n, l)
+      (ap encodedOut (e ∙ ap (λ (t : Taken). encodedOf rules (t .header) out) t))
+
+valid-requires : tie.Need-valid-requires
+valid-requires c κs = search needs
+
+stated-requires : tie.Need-stated-requires
+stated-requires c κs = search needs
+
+returns : tie.Need-returns
+returns c =
+    let args = c .before .before .before .before .before .args in
+    let valid = c .before .before .valid in
+    bad-rules (args .rules .now) (args .header) (args .out .now) (sym (valid .ensures) ∙ not-true _ (c .before .if1 .taken)) (c .stated .ensures)
+
+header-in-requires : tie.Need-header-in-requires
+header-in-requires c κs = search needs
+
+stated-requires-2 : tie.Need-stated-requires-2
+stated-requires-2 c κs = search needs
+
+returns-2 : tie.Need-returns-2
+returns-2 c =
+    let args = c .before .before .before .before .before .before .before .before .args in
+    let valid = c .before .before .before .before .before .valid in
+    let if1 = c .before .before .before .before .if1 in
+    let header-in = c .before .before .before .header-in in
+    bad-field (args .rules .now) (args .header) (args .out .now) (sym (valid .ensures) ∙ not-false _ (if1 .left)) (header-in .ensures) (not-true _ (c .before .if2 .taken)) (c .stated2 .ensures)
+
+encode-requires : tie.Need-encode-requires
+encode-requires c κs = search needs
+
+encode-number-requires : tie.Need-encode-number-requires
+encode-number-requires c κs = search needs
+
+low-word-requires : tie.Need-low-word-requires
+low-word-requires c κs = search needs
+
+stated-requires-3 : tie.Need-stated-requires-3
+stated-requires-3 c κs = search needs
+
+same-length : tie.Need-same-length
+same-length c = search needs
+
+returns-3 : tie.Need-returns-3
+returns-3 c =
+    let args = c .before .before .before .before .before .before .before .before .before .before .before .before .before .before .before .args in
+    let valid = c .before .before .before .before .before .before .before .before .before .before .before .before .valid in
+    let if1 = c .before .before .before .before .before .before .before .before .before .before .before .if1 in
+    let header-in = c .before .before .before .before .before .before .before .before .before .before .header-in in
+    let if2 = c .before .before .before .before .before .before .before .before .if2 in
+    let encode = c .before .before .before .before .before .encode in
+    let encode-number = c .before .before .encode-number in
+    encoded (args .rules .now) (args .header) (args .out .now) (sym (valid .ensures) ∙ not-false _ (if1 .left)) (header-in .ensures) (not-false _ (if2 .left)) (encode .ensures) (encode-number .ensures) (c .before .low-word .ensures) (c .stated3 .ensures)
+
+pub encode-core-spec : {M : Type 1} → statement M
+encode-core-spec =
+    tie.close
+    (tie.spec
+    valid-requires
+    stated-requires
+    returns
+    header-in-requires
+    stated-requires-2
+    returns-2
+    encode-requires
+    encode-number-requires
+    low-word-requires
+    stated-requires-3
+    same-length
+    returns-3)
