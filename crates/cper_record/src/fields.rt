@@ -128,13 +128,16 @@ pub fn put20(out: &mut [u8], at: usize, field: [u8; 20])
     put_bytes(out, at, &field);
 }
 
-// Moves a field of sixteen bytes to the same offset of the output; absent, it is zero there.
+// Moves a field of sixteen bytes to the same offset of the output; absent, it is zero there. Both halves are read before
+// either is written, so that they can be one move.
 pub fn move16(held: bool, s: &[u8], out: &mut [u8], at: usize)
     requires { ⌜ (at + 16 ≤ length (now s)) × (at + 16 ≤ length (now out)) ⌝ }
     ensures { λ _. ⌜ now (out .exit) ≡ over (now (out .entry)) at 16 (present held 16 (part (now (s .entry)) at 16)) ⌝ }
 {
-    le::put_u64(out, at, long_if(held, le::u64_at(s, at)));
-    le::put_u64(out, at + 8, long_if(held, le::u64_at(s, at + 8)));
+    let low = long_if(held, le::u64_at(s, at));
+    let high = long_if(held, le::u64_at(s, at + 8));
+    le::put_u64(out, at, low);
+    le::put_u64(out, at + 8, high);
 }
 
 // Moves a field of twenty bytes to the same offset of the output; absent, it is zero there.
