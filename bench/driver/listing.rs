@@ -1,0 +1,71 @@
+//! The listing of a region.
+use crate::inputs::{self, MIB};
+use crate::library::{Library, PLAIN, PROVED};
+use crate::rust;
+use crate::sample::{C, Candidate, LIBRARY, Times, sample};
+use crate::table::{compared, heading, ratios, row};
+use std::cell::RefCell;
+use std::hint::black_box;
+
+pub type Regions = [(&'static str, fn(usize) -> Vec<u8>); 8];
+
+pub const REGIONS: Regions = [
+    ("4-byte records", inputs::four_bytes),
+    ("8-byte records", inputs::eight_bytes),
+    ("8-byte records, each version another", inputs::eight_bytes_differing),
+    ("4 KiB records", inputs::four_kib),
+    ("type 6 headers", inputs::type6),
+    ("Boxes, one in each", inputs::thin_boxes),
+    ("Boxes, eight in each", inputs::wide_boxes),
+    ("legacy server Boxes", inputs::legacy_boxes),
+];
+
+/// Room for the rows of any region here.
+pub fn spans() -> Vec<u32> {
+    vec![0; MIB / 4 * 8]
+}
+
+/// How many rows a region has, which all list alike.
+pub fn checked(region: &[u8], rules: &[u32], spans: &mut [u32]) -> usize {
+    let limit = inputs::most_tries(region);
+    let [plain, proved] = [PLAIN, PROVED].map(|library| {
+        spans.fill(inputs::UNTOUCHED);
+        let listing = library.list(region, rules, limit, spans);
+        (listing, spans.to_vec())
+    });
+    assert!(plain == proved, "C lists {:?}, the library {:?}", plain.0, proved.0);
+    assert_eq!(proved.0.answer, 0);
+    let rows = proved.0.rows as usize;
+    rust::check_rows(region, rules, &proved.1[..8 * rows]);
+    rows
+}
+
+pub fn times(region: &[u8], rules: &[u32], spans: &mut [u32]) -> Times {
+    let limit = inputs::most_tries(region);
+    let spans = RefCell::new(spans);
+    let work = |library: Library| {
+        let spans = &spans;
+        move || {
+            black_box(library.list(black_box(region), rules, limit, &mut spans.borrow_mut()));
+        }
+    };
+    let mut candidates: Vec<Candidate> = vec![(C, Box::new(work(PLAIN))), (LIBRARY, Box::new(work(PROVED)))];
+    rust::add_walks(&mut candidates, region, rules);
+    sample(&mut candidates)
+}
+
+pub fn report(tables: &[Vec<u32>]) {
+    heading("Listing a region of 1 MiB", &compared(&["region", "rules", "rows", "library, ns a row"]));
+    let mut spans = spans();
+    for (name, make) in REGIONS {
+        let region = make(MIB);
+        for rules in tables {
+            let rows = checked(&region, rules, &mut spans);
+            let times = times(&region, rules, &mut spans);
+            let each = times.median(LIBRARY) / rows as f64;
+            let mut cells = vec![name.into(), (rules.len() / 3).to_string(), rows.to_string(), format!("{each:.1}")];
+            cells.extend(ratios(&times));
+            row(&cells);
+        }
+    }
+}

@@ -1,0 +1,22 @@
+//! Times the library beside plain C and, with `--cfg oracle`, beside the published Rust, on the same inputs. What they give is
+//! compared before they are timed. Prints the tables of docs/SPEED.md.
+mod growth;
+mod headers;
+mod inputs;
+mod library;
+mod listing;
+mod normalising;
+#[cfg_attr(not(oracle), path = "no_rust.rs")]
+mod rust;
+mod sample;
+mod table;
+
+fn main() {
+    let rules = library::intel_rules();
+    let tables = [Vec::new(), rules.clone(), inputs::padded(&rules, 64)];
+    listing::report(&tables);
+    normalising::report();
+    headers::report_decoding(&tables);
+    headers::report_encoding(&tables);
+    growth::report(&rules);
+}

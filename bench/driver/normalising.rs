@@ -1,0 +1,52 @@
+//! The normal form of a CPER.
+use crate::inputs::{self, MIB};
+use crate::library::{Library, PLAIN, PROVED};
+use crate::rust;
+use crate::sample::{C, Candidate, LIBRARY, Times, sample};
+use crate::table::{compared, heading, ratios, row};
+use std::cell::RefCell;
+use std::hint::black_box;
+
+pub const SECTIONS: [usize; 3] = [1, 100, 10_000];
+
+/// All write the same.
+pub fn check(cper: &[u8], out: &mut [u8]) {
+    let [plain, proved] = [PLAIN, PROVED].map(|library| {
+        out.fill(inputs::UNTOUCHED as u8);
+        let written = library.normalise(cper, out);
+        (written, out.to_vec())
+    });
+    assert!(plain == proved, "C writes {:?}, the library {:?}", plain.0, proved.0);
+    assert_eq!(proved.0.answer, 0);
+    rust::check_normal_form(cper, &proved.1[..proved.0.length as usize]);
+}
+
+pub fn times(cper: &[u8], out: &mut [u8]) -> Times {
+    let out = RefCell::new(out);
+    let work = |library: Library| {
+        let out = &out;
+        move || {
+            black_box(library.normalise(black_box(cper), &mut out.borrow_mut()));
+        }
+    };
+    let mut candidates: Vec<Candidate> = vec![(C, Box::new(work(PLAIN))), (LIBRARY, Box::new(work(PROVED)))];
+    rust::add_normalisers(&mut candidates, cper);
+    sample(&mut candidates)
+}
+
+pub fn report() {
+    heading("Normalising a CPER of up to 1 MiB", &compared(&["sections", "bytes in each body", "library, µs"]));
+    let mut out = vec![0; MIB];
+    for sections in SECTIONS {
+        let cper = inputs::cper(sections, MIB);
+        check(&cper, &mut out);
+        let times = times(&cper, &mut out);
+        let mut cells = vec![
+            sections.to_string(),
+            inputs::body_size(sections, MIB).to_string(),
+            format!("{:.1}", times.median(LIBRARY) / 1e3),
+        ];
+        cells.extend(ratios(&times));
+        row(&cells);
+    }
+}

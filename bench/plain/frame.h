@@ -1,0 +1,82 @@
+/* What the walker, the decoder and the encoder share: the rule table, and what the start of a record tells. */
+#ifndef FRAME_H
+#define FRAME_H
+
+#include <stdbool.h>
+#include "le.h"
+#include "plain.h"
+
+#define LEGACY (CRASHLOG_LEGACY_SERVER | CRASHLOG_LEGACY_GPU)
+#define END_MARK 0xdeadbeefu
+#define BOX 0x3d
+
+struct frame {
+    uint32_t size;     /* of the header */
+    uint32_t declared; /* of the record */
+};
+
+static inline bool rules_valid(const uint32_t *rules, size_t rules_len)
+{
+    if (rules_len % CRASHLOG_RULE_WORDS != 0 || rules_len / CRASHLOG_RULE_WORDS > CRASHLOG_MOST_RULES)
+        return false;
+    for (size_t at = 0; at < rules_len; at += CRASHLOG_RULE_WORDS)
+        if (rules[at + 2] > 15)
+            return false;
+    return true;
+}
+
+static inline uint32_t flags_of(const uint32_t *rules, size_t rules_len, uint32_t word)
+{
+    uint32_t flags = 0;
+    for (size_t at = 0; at < rules_len; at += CRASHLOG_RULE_WORDS)
+        if ((word & rules[at]) == rules[at + 1])
+            flags |= rules[at + 2];
+    return flags;
+}
+
+static inline uint32_t header_type(uint32_t word)
+{
+    return word >> 8 & 15;
+}
+
+static inline bool is_box(uint32_t word, uint32_t flags)
+{
+    return (word >> 24 & 63) == BOX || flags & CRASHLOG_LEGACY_SERVER_BOX;
+}
+
+/* The version word, or 0 where the records have ended. */
+static inline uint32_t word_of(const uint8_t *bytes, size_t len)
+{
+    if (len < 4)
+        return 0;
+    uint32_t word = u32_at(bytes);
+    return word == END_MARK ? 0 : word;
+}
+
+/* Judges a header whose records have not ended: DONE, BAD_HEADER or BAD_TYPE. */
+static inline uint8_t judge(const uint8_t *bytes, size_t len, uint32_t word, uint32_t flags, struct frame *frame)
+{
+    static const uint8_t sizes[16] = {8, 8, 24, 28, 32, 32, 28};
+    unsigned shift = flags & CRASHLOG_SIZES_IN_BYTES ? 0 : 2;
+    if (flags & LEGACY) {
+        if (len < 32)
+            return CRASHLOG_BAD_HEADER;
+        frame->size = 32;
+        frame->declared = (uint32_t)u16_at(bytes + 16) << shift;
+        return CRASHLOG_DONE;
+    }
+    if (len < 8)
+        return CRASHLOG_BAD_HEADER;
+    uint32_t size = sizes[header_type(word)];
+    if (size == 0)
+        return CRASHLOG_BAD_TYPE;
+    if (header_type(word) == 6 && len >= 28)
+        size += 4 * (u16_at(bytes + 26) & 127);
+    if (len < size)
+        return CRASHLOG_BAD_HEADER;
+    frame->size = size;
+    frame->declared = ((uint32_t)u16_at(bytes + 4) + u16_at(bytes + 6)) << shift;
+    return CRASHLOG_DONE;
+}
+
+#endif

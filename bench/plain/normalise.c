@@ -1,0 +1,110 @@
+/* A CPER's normal form. */
+#include <stdbool.h>
+#include "le.h"
+#include "plain.h"
+
+#define HEADER_SIZE 128
+#define DESCRIPTOR_SIZE 72
+
+static bool is_cper(const uint8_t *cper, size_t len)
+{
+    return len >= HEADER_SIZE && memcmp(cper, "CPER", 4) == 0 && u32_at(cper + 6) == 0xffffffff;
+}
+
+/* The descriptor with an index, or null where it or its body does not lie in the input. */
+static inline const uint8_t *kept_descriptor(const uint8_t *cper, size_t len, size_t index)
+{
+    size_t at = HEADER_SIZE + DESCRIPTOR_SIZE * index;
+    if (len < at + DESCRIPTOR_SIZE)
+        return NULL;
+    const uint8_t *descriptor = cper + at;
+    if (len < (size_t)u32_at(descriptor) + u32_at(descriptor + 4))
+        return NULL;
+    return descriptor;
+}
+
+static uint32_t severity(uint32_t number)
+{
+    return number < 3 ? number : 3;
+}
+
+static void put_if(bool held, uint8_t *out, const uint8_t *field, size_t size)
+{
+    if (held)
+        memcpy(out, field, size);
+    else
+        memset(out, 0, size);
+}
+
+static void put_header(uint8_t *out, const uint8_t *cper, uint16_t count, uint32_t length)
+{
+    uint32_t bits = u32_at(cper + 16) & 7;
+    memcpy(out, "CPER", 4);
+    memcpy(out + 4, cper + 4, 2);
+    put_u32(out + 6, 0xffffffff);
+    put_u16(out + 10, count);
+    put_u32(out + 12, severity(u32_at(cper + 12)));
+    put_u32(out + 16, bits);
+    put_u32(out + 20, length);
+    put_if(bits & 2, out + 24, cper + 24, 8);
+    out[27] &= 1;
+    put_if(bits & 1, out + 32, cper + 32, 16);
+    put_if(bits & 4, out + 48, cper + 48, 16);
+    memcpy(out + 64, cper + 64, 52);
+    memset(out + 116, 0, 12);
+}
+
+static inline void put_descriptor(uint8_t *out, const uint8_t *descriptor, uint32_t offset)
+{
+    uint8_t bits = descriptor[10] & 3;
+    put_u32(out, offset);
+    memcpy(out + 4, descriptor + 4, 6);
+    out[10] = bits;
+    out[11] = 0;
+    memcpy(out + 12, descriptor + 12, 20);
+    put_if(bits & 1, out + 32, descriptor + 32, 16);
+    put_u32(out + 48, severity(u32_at(descriptor + 48)));
+    put_if(bits & 2, out + 52, descriptor + 52, 20);
+}
+
+crashlog_written plain_normalise(const uint8_t *cper, size_t cper_len, uint8_t *out, size_t out_len)
+{
+    crashlog_written written = {0};
+    if (cper_len > CRASHLOG_MOST_BYTES) {
+        written.answer = CRASHLOG_TOO_LONG;
+        return written;
+    }
+    if (!is_cper(cper, cper_len)) {
+        written.answer = CRASHLOG_NOT_CPER;
+        return written;
+    }
+    size_t count = u16_at(cper + 10), kept = 0;
+    uint64_t bodies = 0;
+    for (size_t index = 0; index < count; index++) {
+        const uint8_t *descriptor = kept_descriptor(cper, cper_len, index);
+        if (descriptor) {
+            kept++;
+            bodies += u32_at(descriptor + 4);
+        }
+    }
+    size_t to = HEADER_SIZE + DESCRIPTOR_SIZE * kept;
+    uint64_t length = to + bodies;
+    if (out_len < length || length > UINT32_MAX) {
+        written.answer = CRASHLOG_OUTPUT_SHORT;
+        return written;
+    }
+    put_header(out, cper, (uint16_t)kept, (uint32_t)length);
+    uint8_t *slot = out + HEADER_SIZE;
+    for (size_t index = 0; index < count; index++) {
+        const uint8_t *descriptor = kept_descriptor(cper, cper_len, index);
+        if (!descriptor)
+            continue;
+        uint32_t size = u32_at(descriptor + 4);
+        put_descriptor(slot, descriptor, (uint32_t)to);
+        memcpy(out + to, cper + u32_at(descriptor), size);
+        slot += DESCRIPTOR_SIZE;
+        to += size;
+    }
+    written.length = (uint32_t)length;
+    return written;
+}

@@ -1,0 +1,179 @@
+/* The peak stack of each function of crashlog.h. The stack below a call is painted; afterwards it is seen how far down the
+ * paint is gone. A function's figure is the most over calls of all kinds: each header type and layout, Boxes deeper than they
+ * are opened, short and long bodies, refusals. */
+#include "crashlog.h"
+
+extern int printf(const char *format, ...);
+
+#define DEPTH 65536
+#define PAINT 0xa5
+#define NESTED 6
+
+static uint8_t bytes[CRASHLOG_MOST_BYTES + 1], out[CRASHLOG_MOST_BYTES];
+static uint32_t rules[CRASHLOG_RULE_WORDS * CRASHLOG_MOST_RULES];
+static uint32_t spans[NESTED * CRASHLOG_SPAN_WORDS], table[8 * CRASHLOG_SECTION_WORDS];
+static crashlog_header header;
+
+/* What the next call is made on, and the most that a call has used. */
+static size_t length, rules_len, room, most;
+static uint64_t limit;
+static uint32_t number;
+
+static void nothing(void) {}
+static void list(void) { crashlog_list(bytes, length, rules, rules_len, limit, spans, room); }
+static void decode(void) { crashlog_decode(bytes, length, rules, rules_len, &header); }
+static void encode(void) { crashlog_encode(&header, rules, rules_len, out, room); }
+static void sections(void) { crashlog_sections(bytes, length, table, room); }
+static void section(void) { crashlog_section(bytes, length, number); }
+static void normalise(void) { crashlog_normalise(bytes, length, out, sizeof out / 24 * room); }
+static void name(void) { crashlog_name(number, out, room); }
+static void intel_rules(void) { crashlog_intel_rules(rules, room); }
+
+/* How far down a call reaches. */
+__attribute__((noinline)) static size_t reached(void (*call)(void))
+{
+    volatile uint8_t *here = __builtin_alloca(16);
+    for (size_t at = 1; at <= DEPTH; at++)
+        here[-(ptrdiff_t)at] = PAINT;
+    call();
+    size_t at = DEPTH;
+    while (at > 0 && here[-(ptrdiff_t)at] == PAINT)
+        at--;
+    return at;
+}
+
+static void try(void (*call)(void))
+{
+    size_t used = reached(call) - reached(nothing);
+    if (used > most)
+        most = used;
+}
+
+static void tell(const char *function)
+{
+    printf("| %s | %u |\n", function, (unsigned)most);
+    most = 0;
+}
+
+static void put16(size_t at, size_t x)
+{
+    bytes[at] = (uint8_t)x;
+    bytes[at + 1] = (uint8_t)(x >> 8);
+}
+
+static void put32(size_t at, size_t x)
+{
+    put16(at, x);
+    put16(at + 2, x >> 16);
+}
+
+/* The one rule gives each record these flags. */
+static void set_flags(uint32_t flags)
+{
+    rules[0] = rules[1] = 0;
+    rules[2] = flags;
+    rules_len = CRASHLOG_RULE_WORDS;
+}
+
+/* A record's start, with its size where a legacy header has it too; nine status words in type 6. */
+static void put_record(size_t at, uint32_t type, size_t size)
+{
+    put32(at, 0x3d123001 | type << 8);
+    put32(at + 4, size / 4);
+    put16(at + 16, size / 4);
+    put16(at + 26, 9);
+}
+
+/* Boxes in Boxes, each with the next one after its header. */
+static void try_nest(uint32_t type, uint32_t flags, size_t header_size)
+{
+    for (size_t i = 0; i < NESTED; i++)
+        put_record(i * header_size, type, (NESTED - i) * header_size);
+    set_flags(flags);
+    length = NESTED * header_size;
+    for (limit = 0; limit < NESTED; limit++)
+        for (room = 0; room <= sizeof spans / sizeof spans[0]; room += CRASHLOG_SPAN_WORDS)
+            try(list);
+}
+
+static void try_lists(void)
+{
+    static const uint8_t sizes[7] = {8, 8, 24, 28, 32, 32, 64};
+    for (uint32_t type = 0; type < 7; type++)
+        try_nest(type, 0, sizes[type]);
+    try_nest(0, CRASHLOG_LEGACY_SERVER | CRASHLOG_LEGACY_SERVER_BOX, 32);
+    try_nest(7, 0, 8);
+    length = CRASHLOG_MOST_BYTES + 1;
+    try(list);
+    tell("list");
+}
+
+/* Each header type with each layout that the rules can give it. */
+static void try_headers(void (*call)(void))
+{
+    for (uint32_t type = 0; type < 16; type++)
+        for (uint32_t flags = 0; flags < 3; flags++) {
+            put_record(0, type, 600);
+            set_flags(flags);
+            length = 600;
+            decode();
+            for (room = 0; room <= 600; room += 300)
+                try(call);
+            length = 5;
+            try(call);
+            rules_len = 1;
+            try(call);
+        }
+}
+
+static void put_cper(void)
+{
+    static const size_t bodies[4] = {0, 5, 40, 20000};
+    size_t at = 128 + 72 * 4;
+    bytes[0] = 'C', bytes[1] = 'P', bytes[2] = 'E', bytes[3] = 'R';
+    put32(6, 0xffffffff);
+    put16(10, 4);
+    put32(16, 7);
+    for (size_t i = 0; i < 4; i++) {
+        put32(128 + 72 * i, at);
+        put32(128 + 72 * i + 4, bodies[i]);
+        put16(128 + 72 * i + 10, i);
+        at += bodies[i];
+    }
+    length = at;
+}
+
+static void try_cper(void (*call)(void))
+{
+    put_cper();
+    for (number = 0; number < 5; number++)
+        for (room = 0; room <= 24; room += 3)
+            try(call);
+    length = 100;
+    try(call);
+    length = CRASHLOG_MOST_BYTES + 1;
+    try(call);
+}
+
+int main(void)
+{
+    try_lists();
+    try_headers(decode);
+    tell("decode");
+    try_headers(encode);
+    tell("encode");
+    try_cper(sections);
+    tell("sections");
+    try_cper(section);
+    tell("section");
+    try_cper(normalise);
+    tell("normalise");
+    for (number = 0; number < 64; number++)
+        for (room = 0; room <= 16; room += 8)
+            try(name);
+    tell("name");
+    for (room = 0; room <= sizeof rules / sizeof rules[0]; room += 64)
+        try(intel_rules);
+    tell("intel_rules");
+    return 0;
+}
