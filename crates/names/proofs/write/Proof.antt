@@ -1,15 +1,15 @@
--- `write` writes the name where it fits, and gives its length.
+-- `write` puts the name where it fits, and gives its length.
 -- The first `len` of the name's bytes are the name. Assumes nothing.
 use mathlib.Core.Path.{_≡_, refl, ap, ap₂, _∙_}
 use mathlib.Core.List.{List, _++_}
-use Prim.Native.Nat.{ℕ, _-_, _≤_, _<_}
+use Prim.Native.Nat.{ℕ, _≤_, _<_}
 use native.Mathlib.Omega.{arith}
-use lib.ListN.{length, take, drop, replicate, length-append}
+use lib.ListN.{length, take, drop}
 use lib.Seq.{take-length, length-take-le}
 use borrow.Author.Tests.{le-leb, lt-leb}
 use Rattle.names.specs.Names.{textOf, nameOf, nameOut}
 use Rattle.names.specs.declared.Name.{Name}
-use Rattle.names.proofs.Laws.{length-text, take-name}
+use Rattle.names.proofs.Laws.{length-text, take-name, len-held}
 use borrow.Author.Needs.{needs}
 use Rattle.names.proofs.write.Statement.{statement}
 use Rattle.names.proofs.write.Tie as tie
@@ -26,9 +26,7 @@ module _ (t : ℕ) {name : Name} (e : name ≡ nameOf t) where
 
   -- its bytes hold it
   held : name .len ≤ length (name .bytes)
-  held =
-      let all = length-append (textOf t) (replicate (16 - length (textOf t)) 0) in
-      rw (e, all) (omega arith)
+  held = rw e (len-held t)
 
   front : length (take (name .len) (name .bytes)) ≡ name .len
   front = length-take-le (name .len) (name .bytes) held
@@ -46,69 +44,53 @@ module _ (t : ℕ) {name : Name} (e : name ≡ nameOf t) where
       d ∙ ap (λ (l : List ℕ). take (length l) l ++ drop (length l) out) text ∙ ap (λ (l : List ℕ). l ++ drop (length (textOf t)) out) (take-length (textOf t)) in
       rw (le-leb (length (textOf t)) (length out) (rw len at h)) (ap₂ pair put len)
 
-name-of-requires : tie.Need-name-of-requires
-name-of-requires c κs = search needs
-
 cast-result : tie.Need-cast-result
 cast-result c =
-    let args = c .before .before .before .before .args in
-    let name-of = c .before .before .name-of in
-    let h = small (args .record-type) (name-of .ensures) in
+    let h = small (c .before .before .before .before .args .record-type) (c .before .before .name-of .ensures) in
     search needs
 
 returns : tie.Need-returns
 returns c =
     let args = c .before .before .before .before .args in
-    let name-of = c .before .before .name-of in
-    short (args .record-type) (name-of .ensures) (args .out .now) (omega arith)
+    short (args .record-type) (c .before .before .name-of .ensures) (args .out .now) (omega arith)
 
 array-share-prefix-spelled : tie.Need-array-share-prefix-spelled
-array-share-prefix-spelled c =
-    let args = c .before .before .before .before .args in
-    let name-of = c .before .before .name-of in
-    held (args .record-type) (name-of .ensures)
+array-share-prefix-spelled c = held (c .before .before .before .before .args .record-type) (c .before .before .name-of .ensures)
 
 slice-aggregate-copy : tie.Need-slice-aggregate-copy
 slice-aggregate-copy c =
-    let args = c .before .before .before .before .before .args in
-    let name-of = c .before .before .before .name-of in
-    let h = front (args .record-type) (name-of .ensures) in
+    let name = c .before .before .before in
+    let h = front (name .before .before .args .record-type) (name .name-of .ensures) in
     search needs
 
 copy-requires : tie.Need-copy-requires
 copy-requires c κs =
-    let args = c .before .before .before .before .before .before .args in
-    let name-of = c .before .before .before .before .name-of in
-    let h = front (args .record-type) (name-of .ensures) in
+    let name = c .before .before .before .before in
+    let h = front (name .before .before .args .record-type) (name .name-of .ensures) in
     omega arith
 
 cast-result-2 : tie.Need-cast-result-2
 cast-result-2 c =
-    let args = c .before .before .before .before .before .before .before .before .before .args in
-    let name-of = c .before .before .before .before .before .before .before .name-of in
-    let h = small (args .record-type) (name-of .ensures) in
+    let name = c .before .before .before .before .before .before .before in
+    let h = small (name .before .before .args .record-type) (name .name-of .ensures) in
     search needs
-
-same-length : tie.Need-same-length
-same-length c = search needs
 
 returns-2 : tie.Need-returns-2
 returns-2 c =
-    let args = c .before .before .before .before .before .before .before .before .before .args in
-    let name-of = c .before .before .before .before .before .before .before .name-of in
-    let copy = c .before .before .copy in
-    copied (args .record-type) (name-of .ensures) (args .out .now) (omega arith) refl (copy .ensures .1)
+    let name = c .before .before .before .before .before .before .before in
+    let args = name .before .before .args in
+    copied (args .record-type) (name .name-of .ensures) (args .out .now) (omega arith) refl (c .before .before .copy .ensures .1)
 
 pub write-spec : {M : Type 1} → statement M
 write-spec =
     tie.close
     (tie.spec
-    name-of-requires
+    (λ c κs. tt)
     cast-result
     returns
     array-share-prefix-spelled
     slice-aggregate-copy
     copy-requires
     cast-result-2
-    same-length
+    (λ c. search needs)
     returns-2)
