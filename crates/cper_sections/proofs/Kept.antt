@@ -54,6 +54,10 @@ pub record Turn : Type 0 where
   pub more : index < count
   pub is : body ≡ bodyAt cper index
 
+-- as a loop's test and what it was told make it
+abbrev pub turn-of : (cper : List ℕ) (index count : ℕ) (body : Body) → index < count → body ≡ bodyAt cper index → Turn
+turn-of cper index count body more is = record { cper = cper; index = index; count = count; body = body; more = more; is = is }
+
 -- the kept sections from its index on, and those after it
 abbrev pub here : Turn → List Section
 here t = keptFrom (t .cper) (t .index) (t .count - t .index)

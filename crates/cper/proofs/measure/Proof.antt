@@ -8,7 +8,7 @@ use native.Mathlib.Omega.{arith}
 use lib.ListN.{length}
 use Rattle.cper_sections.specs.Sections.{keptFrom, keptOf}
 use Rattle.cper.specs.Normal.{bodySizes}
-use Rattle.cper_sections.proofs.Kept.{kept-start, Turn, here, after, kept-next, left-out, kept-end, body-within}
+use Rattle.cper_sections.proofs.Kept.{kept-start, Turn, turn-of, here, after, kept-next, left-out, kept-end, body-within}
 use borrow.Author.Needs.{needs}
 use Rattle.cper.proofs.measure.Statement.{statement}
 use Rattle.cper.proofs.measure.Tie as tie
@@ -21,15 +21,7 @@ abbrev μ-loop : tie.MeasureT-loop
 
 -- a turn of the loop
 abbrev turn : tie.After-body-at Inv-loop μ-loop → Turn
-turn c =
-    record {
-      cper = c .before .before .before .before .before .args .cper .now;
-      index = c .before .before .loop .index;
-      count = c .before .before .before .section-count .result;
-      body = c .body-at .result;
-      more = c .before .loop-test .taken;
-      is = c .body-at .ensures;
-    }
+turn c = turn-of (c .before .before .before .before .before .args .cper .now) (c .before .before .loop .index) (c .before .before .before .section-count .result) (c .body-at .result) (c .before .loop-test .taken) (c .body-at .ensures)
 
 section-count-requires : tie.Need-section-count-requires Inv-loop μ-loop
 section-count-requires c κs = search needs

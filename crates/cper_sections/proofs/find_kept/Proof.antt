@@ -7,7 +7,7 @@ use Prim.Native.Nat.{ℕ, suc, _+_, _-_, _≤_, _<_}
 use native.Mathlib.Omega.{arith}
 use Rattle.cper_sections.specs.Answers.{done}
 use Rattle.cper_sections.specs.Sections.{Section, keptFrom, keptOf, placeIn}
-use Rattle.cper_sections.proofs.Kept.{kept-start, Turn, here, after, this, kept-next, left-out, kept-end}
+use Rattle.cper_sections.proofs.Kept.{kept-start, Turn, turn-of, here, after, this, kept-next, left-out, kept-end}
 use borrow.Author.Needs.{needs}
 use Rattle.cper_sections.proofs.find_kept.Statement.{statement}
 use Rattle.cper_sections.proofs.find_kept.Tie as tie
@@ -30,15 +30,7 @@ abbrev μ-loop : tie.MeasureT-loop
 
 -- a turn of the loop
 abbrev turn : tie.After-body-at Inv-loop μ-loop → Turn
-turn c =
-    record {
-      cper = c .before .before .before .before .before .args .cper .now;
-      index = c .before .before .loop .index;
-      count = c .before .before .before .section-count .result;
-      body = c .body-at .result;
-      more = c .before .loop-test .taken;
-      is = c .body-at .ensures;
-    }
+turn c = turn-of (c .before .before .before .before .before .args .cper .now) (c .before .before .loop .index) (c .before .before .before .section-count .result) (c .body-at .result) (c .before .loop-test .taken) (c .body-at .ensures)
 
 section-count-requires : tie.Need-section-count-requires Inv-loop μ-loop
 section-count-requires c κs = search needs
