@@ -4,6 +4,7 @@ use crate::library::{Library, PLAIN, PROVED};
 use crate::rust;
 use crate::sample::{C, Candidate, LIBRARY, Times, sample};
 use crate::table::{compared, heading, ratios, row};
+use crate::targets::Measured;
 use std::cell::RefCell;
 use std::hint::black_box;
 
@@ -54,18 +55,22 @@ pub fn times(region: &[u8], rules: &[u32], spans: &mut [u32]) -> Times {
     sample(&mut candidates)
 }
 
-pub fn report(tables: &[Vec<u32>]) {
+pub fn report(tables: &[Vec<u32>]) -> Vec<Measured> {
     heading("Listing a region of 1 MiB", &compared(&["region", "rules", "rows", "library, ns a row"]));
     let mut spans = spans();
+    let mut measured = Vec::new();
     for (name, make) in REGIONS {
         let region = make(MIB);
         for rules in tables {
             let rows = checked(&region, rules, &mut spans);
             let times = times(&region, rules, &mut spans);
             let each = times.median(LIBRARY) / rows as f64;
-            let mut cells = vec![name.into(), (rules.len() / 3).to_string(), rows.to_string(), format!("{each:.1}")];
+            let count = rules.len() / 3;
+            let mut cells = vec![name.into(), count.to_string(), rows.to_string(), format!("{each:.1}")];
             cells.extend(ratios(&times));
             row(&cells);
+            measured.push(Measured { input: format!("{name}, {count} rules"), times });
         }
     }
+    measured
 }

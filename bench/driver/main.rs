@@ -10,13 +10,15 @@ mod normalising;
 mod rust;
 mod sample;
 mod table;
+mod targets;
 
 fn main() {
     let rules = library::intel_rules();
     let tables = [Vec::new(), rules.clone(), inputs::padded(&rules, 64)];
-    listing::report(&tables);
-    normalising::report();
+    let listings = listing::report(&tables);
+    let normal_forms = normalising::report();
     headers::report_decoding(&tables);
     headers::report_encoding(&tables);
     growth::report(&rules);
+    targets::report(&listings, &normal_forms);
 }

@@ -4,10 +4,11 @@ use crate::library::{Library, PLAIN, PROVED};
 use crate::rust;
 use crate::sample::{C, Candidate, LIBRARY, Times, sample};
 use crate::table::{compared, heading, ratios, row};
+use crate::targets::Measured;
 use std::cell::RefCell;
 use std::hint::black_box;
 
-pub const SECTIONS: [usize; 3] = [1, 100, 10_000];
+const SECTIONS: [usize; 3] = [1, 100, 10_000];
 
 /// All write the same.
 pub fn check(cper: &[u8], out: &mut [u8]) {
@@ -34,9 +35,10 @@ pub fn times(cper: &[u8], out: &mut [u8]) -> Times {
     sample(&mut candidates)
 }
 
-pub fn report() {
+pub fn report() -> Vec<Measured> {
     heading("Normalising a CPER of up to 1 MiB", &compared(&["sections", "bytes in each body", "library, µs"]));
     let mut out = vec![0; MIB];
+    let mut measured = Vec::new();
     for sections in SECTIONS {
         let cper = inputs::cper(sections, MIB);
         check(&cper, &mut out);
@@ -48,5 +50,7 @@ pub fn report() {
         ];
         cells.extend(ratios(&times));
         row(&cells);
+        measured.push(Measured { input: format!("{sections} sections"), times });
     }
+    measured
 }

@@ -1,0 +1,44 @@
+//! What is aimed at, and the input on which the library comes out worst.
+use crate::rust;
+use crate::sample::{C, LIBRARY, STANDIN, Times};
+use crate::table::{heading, row};
+
+/// The times on one input.
+pub struct Measured {
+    pub input: String,
+    pub times: Times,
+}
+
+/// At most so many times the time of C.
+const MOST_OF_C: f64 = 1.3;
+
+/// At least so many times as fast as the Rust with the same rules.
+const LEAST_OF_RUST_LISTING: f64 = 5.0;
+const LEAST_OF_RUST_NORMALISING: f64 = 2.0;
+
+fn line(target: String, worst: (f64, &str), met: bool) {
+    let met = if met { "yes" } else { "no" };
+    row(&[target, format!("{:.2}", worst.0), worst.1.into(), met.into()]);
+}
+
+fn against_c(what: &str, measured: &[Measured]) {
+    let ratios = measured.iter().map(|m| (m.times.ratio(LIBRARY, C).unwrap().median, m.input.as_str()));
+    let worst = ratios.max_by(|a, b| a.0.total_cmp(&b.0)).unwrap();
+    line(format!("{what}: at most {MOST_OF_C} times C"), worst, worst.0 <= MOST_OF_C);
+}
+
+fn against_rust(what: &str, least: f64, measured: &[Measured]) {
+    let ratios = measured.iter().map(|m| (m.times.ratio(STANDIN, LIBRARY).unwrap().median, m.input.as_str()));
+    let worst = ratios.min_by(|a, b| a.0.total_cmp(&b.0)).unwrap();
+    line(format!("{what}: at least {least} times as fast as the Rust"), worst, least <= worst.0);
+}
+
+pub fn report(listings: &[Measured], normal_forms: &[Measured]) {
+    heading("Targets", &["target", "worst", "on", "met"]);
+    against_c("listing", listings);
+    against_c("normalising", normal_forms);
+    if rust::PRESENT {
+        against_rust("listing", LEAST_OF_RUST_LISTING, listings);
+        against_rust("normalising", LEAST_OF_RUST_NORMALISING, normal_forms);
+    }
+}
