@@ -106,15 +106,15 @@ pub fn decode_core(old: CHeader, bytes: &[u8], rules: &[u32]) -> Decoded
     }
 }
 
-// An encode: 2 before 11, then what the encoder answers.
+// An encode: 2 before 11, then what the encoder answers, which tests the rules itself.
 pub fn encode_core(header: CHeader, rules: &[u32], out: &mut [u8]) -> Written
     ensures { λ r. ⌜ (now (out .exit), r) ≡ encodeOut (now (rules .entry)) header (now (out .entry)) ⌝ }
 {
-    if !rules::valid(rules) {
-        return stated(BAD_RULES, 0);
-    }
     let taken = header_in(header);
     if !taken.ok {
+        if !rules::valid(rules) {
+            return stated(BAD_RULES, 0);
+        }
         return stated(BAD_FIELD, 0);
     }
     let wanted = taken.header;

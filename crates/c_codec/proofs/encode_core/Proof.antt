@@ -1,15 +1,16 @@
 -- `encode_core` answers as C has it, and writes what the encoder writes.
--- By its tests, in their order. Assumes nothing.
-use mathlib.Core.Path.{_≡_, sym, ap, _∙_}
-use mathlib.Core.Bool.{true, false}
+-- By its tests; the encoder, too, answers bad rules with 2, so that a header that is one needs no test of the rules here. Assumes nothing.
+use mathlib.Core.Path.{_≡_, refl, sym, ap, _∙_}
+use mathlib.Core.Bool.{Bool, true, false, cond}
 use mathlib.Core.List.{List}
 use Prim.Native.Nat.{ℕ, _%_}
 use borrow.Author.Tests.{not-true, not-false}
 use Rattle.rules.specs.Rules.{validOf}
 use Rattle.header.specs.declared.Header.{Header}
-use Rattle.encode.specs.Encode.{numberOf, encodedOf}
+use Rattle.encode.specs.Encode.{numberOf, answered, encodedOf}
+use Rattle.encode.specs.declared.Answer.the-variants.{BadRules}
 use Rattle.encode.specs.declared.Encoded.{Encoded}
-use Rattle.c_header.specs.Header.{takenOf}
+use Rattle.c_header.specs.Header.{headerIn, takenOf}
 use Rattle.c_header.specs.declared.CHeader.{CHeader}
 use Rattle.c_header.specs.declared.Taken.{Taken}
 use Rattle.c_answers.specs.Answers.{writtenOf}
@@ -35,13 +36,26 @@ module _ (rules : List ℕ) (h : CHeader) (out : List ℕ) where
   unfolding encodeOut
   bad-field v t s f = rw (v, sym (ap (λ (t : Taken). t .ok) t) ∙ s, f)
 
-  encoded : {t : Taken} {end : List ℕ} {e : Encoded} {number n : ℕ} {r : Written} → validOf rules ≡ true → t ≡ takenOf h → t .ok ≡ true
+  -- with bad rules the encoder leaves the output, and its answer is the one of bad rules
+  encoder-tests : encodedOut (encodedOf rules (headerIn h) out) ≡ cond (validOf rules) (encodedOut (encodedOf rules (headerIn h) out)) (pair out (writtenOf (2, 0)))
+  unfolding encodedOf
+  encoder-tests = by (validOf rules) _
+    where
+      by : (b : Bool) (end : List ℕ × Encoded)
+          → encodedOut (cond b end (end-of out (answered BadRules 0))) ≡ cond b (encodedOut (cond b end (end-of out (answered BadRules 0)))) (pair out (writtenOf (2, 0)))
+      by true end = refl
+      by false end = refl
+
+  encoded : {t : Taken} {end : List ℕ} {e : Encoded} {number n : ℕ} {r : Written} → t ≡ takenOf h → t .ok ≡ true
       → end-of end e ≡ encodedOf rules (t .header) out → number ≡ numberOf (e .answer) → n ≡ e .length % 4294967296
       → r ≡ writtenOf (number, n) → pair end r ≡ encodeOut rules h out
   unfolding encodeOut
-  encoded v t s e n l f =
-      rw (v, sym (ap (λ (t : Taken). t .ok) t) ∙ s, f, n, l)
-      (ap encodedOut (e ∙ ap (λ (t : Taken). encodedOf rules (t .header) out) t))
+  encoded t s e n l f =
+      rw (sym (ap (λ (t : Taken). t .ok) t) ∙ s, f, n, l)
+      (ap encodedOut (e ∙ ap (λ (t : Taken). encodedOf rules (t .header) out) t) ∙ encoder-tests)
+
+header-in-requires : tie.Need-header-in-requires
+header-in-requires c κs = search needs
 
 valid-requires : tie.Need-valid-requires
 valid-requires c κs = search needs
@@ -51,12 +65,9 @@ stated-requires c κs = search needs
 
 returns : tie.Need-returns
 returns c =
-    let args = c .before .before .before .before .before .args in
+    let args = c .before .before .before .before .before .before .before .before .args in
     let valid = c .before .before .valid in
-    bad-rules (args .rules .now) (args .header) (args .out .now) (sym (valid .ensures) ∙ not-true _ (c .before .if1 .taken)) (c .stated .ensures)
-
-header-in-requires : tie.Need-header-in-requires
-header-in-requires c κs = search needs
+    bad-rules (args .rules .now) (args .header) (args .out .now) (sym (valid .ensures) ∙ not-true _ (c .before .if2 .taken)) (c .stated .ensures)
 
 stated-requires-2 : tie.Need-stated-requires-2
 stated-requires-2 c κs = search needs
@@ -64,10 +75,10 @@ stated-requires-2 c κs = search needs
 returns-2 : tie.Need-returns-2
 returns-2 c =
     let args = c .before .before .before .before .before .before .before .before .args in
-    let valid = c .before .before .before .before .before .valid in
-    let if1 = c .before .before .before .before .if1 in
-    let header-in = c .before .before .before .header-in in
-    bad-field (args .rules .now) (args .header) (args .out .now) (sym (valid .ensures) ∙ not-false _ (if1 .left)) (header-in .ensures) (not-true _ (c .before .if2 .taken)) (c .stated2 .ensures)
+    let valid = c .before .before .valid in
+    let if1 = c .before .before .before .if1 in
+    let header-in = c .before .before .before .before .before .header-in in
+    bad-field (args .rules .now) (args .header) (args .out .now) (sym (valid .ensures) ∙ not-false _ (c .before .if2 .left)) (header-in .ensures) (not-true _ (if1 .taken)) (c .stated2 .ensures)
 
 encode-requires : tie.Need-encode-requires
 encode-requires c κs = search needs
@@ -86,23 +97,21 @@ same-length c = search needs
 
 returns-3 : tie.Need-returns-3
 returns-3 c =
-    let args = c .before .before .before .before .before .before .before .before .before .before .before .before .before .before .before .args in
-    let valid = c .before .before .before .before .before .before .before .before .before .before .before .before .valid in
-    let if1 = c .before .before .before .before .before .before .before .before .before .before .before .if1 in
+    let args = c .before .before .before .before .before .before .before .before .before .before .before .before .before .args in
     let header-in = c .before .before .before .before .before .before .before .before .before .before .header-in in
-    let if2 = c .before .before .before .before .before .before .before .before .if2 in
+    let if1 = c .before .before .before .before .before .before .before .before .if1 in
     let encode = c .before .before .before .before .before .encode in
     let encode-number = c .before .before .encode-number in
-    encoded (args .rules .now) (args .header) (args .out .now) (sym (valid .ensures) ∙ not-false _ (if1 .left)) (header-in .ensures) (not-false _ (if2 .left)) (encode .ensures) (encode-number .ensures) (c .before .low-word .ensures) (c .stated3 .ensures)
+    encoded (args .rules .now) (args .header) (args .out .now) (header-in .ensures) (not-false _ (if1 .left)) (encode .ensures) (encode-number .ensures) (c .before .low-word .ensures) (c .stated3 .ensures)
 
 pub encode-core-spec : {M : Type 1} → statement M
 encode-core-spec =
     tie.close
     (tie.spec
+    header-in-requires
     valid-requires
     stated-requires
     returns
-    header-in-requires
     stated-requires-2
     returns-2
     encode-requires
