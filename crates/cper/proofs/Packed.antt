@@ -7,10 +7,11 @@ use Prim.Native.Nat.{ℕ, zero, suc, _+_, _*_, _≤_}
 use native.Mathlib.Omega.{arith}
 use lib.ListN.{length, take, drop, length-append, length-drop, take-append-drop}
 use lib.Seq.{take-at, drop-at, drop-drop, length-take-le}
-use Rattle.cper_record.specs.Fields.{over}
-use Rattle.cper_record.specs.Record.{headerSize, countOf}
-use Rattle.cper_record.specs.Descriptor.{descriptorSize, descriptorOf, bitsOf}
-use Rattle.cper_record.proofs.Lengths.{length-part, length-descriptor-read}
+use Rattle.cper_fields.specs.Fields.{over}
+use Rattle.cper_header.specs.Record.{headerSize, countOf}
+use Rattle.cper_descr.specs.Descriptor.{descriptorSize, descriptorOf, bitsOf}
+use Rattle.cper_fields.proofs.Lengths.{length-part}
+use Rattle.cper_descr.proofs.Lengths.{length-descriptor-read}
 use Rattle.cper_sections.specs.Sections.{Section, descriptorAt, told, keeps, keptFrom, keptOf, bodyOf}
 use Rattle.cper.specs.Normal.{bodySizes, bodiesAt, sizeOf, descriptorFor, descriptorsFor, bodiesOf}
 use Rattle.cper.specs.Steps.{withSection, pack}

@@ -4,9 +4,9 @@ use mathlib.Core.List.{List, [], _∷_, _++_}
 use mathlib.Core.Bool.{cond, _&&_}
 use lib.Dec.{leb}
 use lib.ListN.{length, drop}
-use Rattle.cper_record.specs.Record.{headerSize}
-use Rattle.cper_record.specs.Header.{headerOf, counted, normalHeader, headerBytes}
-use Rattle.cper_record.specs.Descriptor.{descriptorSize, descriptorOf, moved, normalDescriptor, descriptorBytes}
+use Rattle.cper_header.specs.Record.{headerSize}
+use Rattle.cper_header.specs.Header.{headerOf, counted, normalHeader, headerBytes}
+use Rattle.cper_descr.specs.Descriptor.{descriptorSize, descriptorOf, moved, normalDescriptor, descriptorBytes}
 use Rattle.cper_sections.specs.Answers.{done, tooLong, notCper, checked}
 use Rattle.cper.specs.Answers.{outputShort}
 use Rattle.cper_sections.specs.Sections.{Section, descriptorAt, keptOf, bodyOf}

@@ -3,9 +3,9 @@ use Prim.Native.Nat.{ℕ, _+_, _*_, _≤_, _<_}
 use mathlib.Core.Path.{_≡_}
 use mathlib.Core.List.{List, [], _∷_}
 use lib.ListN.{length}
-use Rattle.cper_record.specs.Fields.{over}
-use Rattle.cper_record.specs.Record.{headerSize}
-use Rattle.cper_record.specs.Descriptor.{descriptorSize}
+use Rattle.cper_fields.specs.Fields.{over}
+use Rattle.cper_header.specs.Record.{headerSize}
+use Rattle.cper_descr.specs.Descriptor.{descriptorSize}
 use Rattle.cper_sections.specs.Sections.{Section, descriptorAt, keptOf, bodyOf}
 use Rattle.cper_sections.specs.declared.Body.{Body}
 use Rattle.cper.specs.Normal.{bodySizes, sizeOf, mostOutput, descriptorFor}

@@ -1,8 +1,5 @@
 // The normal form of a UEFI Common Platform Error Record: the kept sections, packed, with all that is unknown or absent zero.
-use cper_record::descr;
-use cper_record::fields;
-use cper_record::header;
-use cper_record::header::CperHeader;
+use cper_header::CperHeader;
 use cper_sections::Body;
 use cper_sections::body_at;
 use cper_sections::descriptor_at;
@@ -10,8 +7,8 @@ ghost use mathlib.Core.Path.{_≡_};
 ghost use mathlib.Core.List.{_++_};
 ghost use Prim.Native.Nat.{_≤_};
 ghost use lib.ListN.{length, drop};
-ghost use Rattle.cper_record.specs.Record.{headerSize};
-ghost use Rattle.cper_record.specs.Header.{headerOf, counted, normalHeader, headerBytes};
+ghost use Rattle.cper_header.specs.Record.{headerSize};
+ghost use Rattle.cper_header.specs.Header.{headerOf, counted, normalHeader, headerBytes};
 ghost use Rattle.cper_sections.specs.Answers.{mostBytes};
 ghost use Rattle.cper_sections.specs.Sections.{keptOf};
 ghost use Rattle.cper_sections.specs.Steps.{section};
@@ -41,7 +38,7 @@ fn measure(cper: &[u8]) -> Sum
     requires { ⌜ (headerSize ≤ length (now cper)) × (length (now cper) ≤ mostBytes) ⌝ }
     ensures { λ r. ⌜ Measured (keptOf (now (cper .entry))) r ⌝ }
 {
-    let count = header::section_count(cper) as usize;
+    let count = cper_header::section_count(cper) as usize;
     let mut kept: usize = 0;
     let mut bodies: u64 = 0;
     let mut index: usize = 0;
@@ -74,10 +71,10 @@ fn write_section(cper: &[u8], index: usize, body: Body, out: &mut [u8], row: usi
 {
     let from = descriptor_at(index);
     let slot = descriptor_at(row);
-    descr::rewrite(&cper[from..], &mut out[slot..], to as u32);
+    cper_descr::rewrite(&cper[from..], &mut out[slot..], to as u32);
     let start = body.offset as usize;
     let stop = start + (body.size as usize);
-    fields::put_bytes(out, to, &cper[start..stop]);
+    cper_fields::put_bytes(out, to, &cper[start..stop]);
 }
 
 // Writes the kept sections, their bodies after the descriptors.
@@ -85,7 +82,7 @@ fn write_sections(cper: &[u8], out: &mut [u8], kept: usize)
     requires { ⌜ Roomy (now cper) (now out) kept ⌝ }
     ensures { λ _. ⌜ now (out .exit) ≡ pack (now (cper .entry)) (now (out .entry)) 0 (bodiesAt (keptOf (now (cper .entry)))) (keptOf (now (cper .entry))) ⌝ }
 {
-    let count = header::section_count(cper) as usize;
+    let count = cper_header::section_count(cper) as usize;
     let mut row: usize = 0;
     let mut to = descriptor_at(kept);
     let mut index: usize = 0;
@@ -126,7 +123,7 @@ pub fn normalise(cper: &[u8], out: &mut [u8]) -> Normalised
     if cper_sections::MOST_BYTES < cper.len() {
         return Normalised::TooLong;
     }
-    if !header::is_cper(cper) {
+    if !cper_header::is_cper(cper) {
         return Normalised::NotCper;
     }
     pack_kept(cper, out)

@@ -7,7 +7,7 @@ use Prim.Native.Nat.{ℕ, zero, suc, _+_, _*_, _/_, _≤_, _<_}
 use native.Mathlib.Omega.{arith}
 use lib.ListN.{length, getD, drop}
 use lib.Seq.{take-all}
-use Rattle.cper_record.specs.Record.{isCper}
+use Rattle.cper_header.specs.Record.{isCper}
 use Rattle.cper_sections.specs.Answers.{done, tooLong, notCper, mostBytes}
 use Rattle.cper_sections.specs.Sections.{Section, keptOf, rowSize, rowsOf, listedIn, sectionsOf, placeIn, placeOf, partAt}
 use Rattle.cper.specs.Normal.{sizeOf, normalOf, mostOutput}

@@ -9,10 +9,10 @@ use lib.ListN.{length, getD}
 use Rattle.le.specs.Le.{le}
 use Rattle.le.proofs.Laws.{le-lt}
 use Rattle.layout.specs.Fields.{digits}
-use Rattle.cper_record.specs.Fields.{has, numberIf, part, zeros, present, severityNumber}
-use Rattle.cper_record.specs.Descriptor.{descriptorSize, fruIdBit, fruTextBit, descriptorOf, moved, bitsOf, normalDescriptor, descriptorBytes}
-use Rattle.cper_record.specs.declared.descr.CperSectionDescriptor.{CperSectionDescriptor}
-use Rattle.cper_record.proofs.Lengths.{length-part, length-present, present-again}
+use Rattle.cper_fields.specs.Fields.{has, numberIf, part, zeros, present, severityNumber}
+use Rattle.cper_descr.specs.Descriptor.{descriptorSize, fruIdBit, fruTextBit, descriptorOf, moved, bitsOf, normalDescriptor, descriptorBytes}
+use Rattle.cper_descr.specs.declared.CperSectionDescriptor.{CperSectionDescriptor}
+use Rattle.cper_fields.proofs.Lengths.{length-part, length-present, present-again}
 use Rattle.cper_laws.proofs.SeverityAgain.{severity-again, severity-small}
 use Rattle.cper_laws.proofs.Reading.{From, past, past-number, read-number, read-bytes}
 

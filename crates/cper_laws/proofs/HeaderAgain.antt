@@ -13,12 +13,12 @@ use borrow.Author.Tests.{le-leb}
 use Rattle.le.specs.Le.{le}
 use Rattle.le.proofs.Laws.{le-lt}
 use Rattle.layout.specs.Fields.{digits}
-use Rattle.cper_record.specs.Fields.{has, numberIf, part, zeros, present, severityNumber}
-use Rattle.cper_record.specs.Record.{headerSize, signature, signatureEnd, startsWith, isCper, countOf}
-use Rattle.cper_record.specs.Header.{timestampOf, noTimestamp, timestampBytes, platformBit, timestampBit, partitionBit, headerOf, counted, bitsOf, normalHeader, headerBytes}
-use Rattle.cper_record.specs.declared.header.Timestamp.{Timestamp}
-use Rattle.cper_record.specs.declared.header.CperHeader.{CperHeader}
-use Rattle.cper_record.proofs.Lengths.{length-part, length-present, present-again}
+use Rattle.cper_fields.specs.Fields.{has, numberIf, part, zeros, present, severityNumber}
+use Rattle.cper_header.specs.Record.{headerSize, signature, signatureEnd, startsWith, isCper, countOf}
+use Rattle.cper_header.specs.Header.{timestampOf, noTimestamp, timestampBytes, platformBit, timestampBit, partitionBit, headerOf, counted, bitsOf, normalHeader, headerBytes}
+use Rattle.cper_header.specs.declared.Timestamp.{Timestamp}
+use Rattle.cper_header.specs.declared.CperHeader.{CperHeader}
+use Rattle.cper_fields.proofs.Lengths.{length-part, length-present, present-again}
 use Rattle.cper_laws.proofs.SeverityAgain.{severity-again, severity-small}
 use Rattle.cper_laws.proofs.Reading.{From, past, past-number, read-number, read-bytes}
 

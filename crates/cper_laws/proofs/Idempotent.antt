@@ -7,9 +7,9 @@ use Prim.Native.Nat.{ℕ, _+_, _*_, _≤_, _<_}
 use native.Mathlib.Omega.{arith}
 use lib.ListN.{length, getD, drop}
 use borrow.Author.Tests.{le-leb}
-use Rattle.cper_record.specs.Record.{headerSize}
-use Rattle.cper_record.specs.Header.{headerOf, counted, normalHeader, headerBytes}
-use Rattle.cper_record.specs.declared.header.CperHeader.{CperHeader}
+use Rattle.cper_header.specs.Record.{headerSize}
+use Rattle.cper_header.specs.Header.{headerOf, counted, normalHeader, headerBytes}
+use Rattle.cper_header.specs.declared.CperHeader.{CperHeader}
 use Rattle.cper_sections.specs.Answers.{done, tooLong, notCper, mostBytes}
 use Rattle.cper_sections.specs.Sections.{Section, keptOf}
 use Rattle.cper.specs.Normal.{bodySizes, bodiesAt, sizeOf, headerFor, descriptorsFor, bodiesOf, recordOf, normalOf, mostOutput, packedIn, normalisedOf}

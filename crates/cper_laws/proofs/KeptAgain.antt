@@ -8,9 +8,9 @@ use native.Mathlib.Omega.{arith}
 use lib.ListN.{length, getD}
 use lib.Seq.{drop-at}
 use Rattle.le.proofs.Laws.{le-lt}
-use Rattle.cper_record.specs.Record.{headerSize, isCper, countOf}
-use Rattle.cper_record.specs.Header.{headerOf, counted, normalHeader}
-use Rattle.cper_record.specs.Descriptor.{descriptorSize}
+use Rattle.cper_header.specs.Record.{headerSize, isCper, countOf}
+use Rattle.cper_header.specs.Header.{headerOf, counted, normalHeader}
+use Rattle.cper_descr.specs.Descriptor.{descriptorSize}
 use Rattle.cper_sections.specs.Sections.{told, keeps, keptFrom, keptOf}
 use Rattle.cper.specs.Normal.{bodiesAt, sizeOf, headerFor, descriptorsFor, bodiesOf, normalOf, mostOutput}
 use Rattle.cper.proofs.Packed.{kept-inside}

@@ -5,10 +5,10 @@ use mathlib.Core.List.{List, [], _∷_}
 use Prim.Native.Nat.{ℕ, _+_, _*_, _≤_}
 use native.Mathlib.Omega.{arith}
 use lib.ListN.{length, length-append}
-use Rattle.cper_record.specs.Record.{headerSize}
-use Rattle.cper_record.specs.Header.{headerOf, bitsOf}
-use Rattle.cper_record.specs.Descriptor.{descriptorSize}
-use Rattle.cper_record.proofs.Lengths.{length-header-read}
+use Rattle.cper_header.specs.Record.{headerSize}
+use Rattle.cper_header.specs.Header.{headerOf, bitsOf}
+use Rattle.cper_descr.specs.Descriptor.{descriptorSize}
+use Rattle.cper_header.proofs.Lengths.{length-header-read}
 use Rattle.cper_sections.specs.Sections.{Section, keptOf, bodyOf}
 use Rattle.cper.specs.Normal.{bodySizes, bodiesAt, sizeOf, headerFor, descriptorFor, descriptorsFor, bodiesOf, normalOf}
 use Rattle.cper.proofs.Packed.{Inside, kept-inside, length-body, length-descriptor-for}

@@ -7,7 +7,7 @@ use Prim.Native.Nat.{ℕ, _≤_, _<_}
 use lib.Dec.{leb}
 use lib.ListN.{length}
 use borrow.Author.Tests.{lt-leb}
-use Rattle.cper_record.specs.Record.{isCper}
+use Rattle.cper_header.specs.Record.{isCper}
 use Rattle.cper_sections.specs.Answers.{tooLong, notCper, mostBytes}
 use Rattle.cper.specs.Answers.{outputShort}
 use Rattle.cper_sections.specs.Sections.{keptOf}

@@ -11,7 +11,7 @@ use Rattle.le.specs.Le.{le, put}
 use Rattle.le.proofs.Laws.{le-same, le-put}
 use Rattle.layout.specs.Fields.{digits}
 use Rattle.layout.proofs.Digits.{length-digits, put-digits}
-use Rattle.cper_record.specs.Fields.{part}
+use Rattle.cper_fields.specs.Fields.{part}
 
 -- from `at` on, the bytes are `rest`
 pub record From (bs : List ℕ) (at : ℕ) (rest : List ℕ) : Type 0 where

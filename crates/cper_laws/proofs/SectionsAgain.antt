@@ -9,9 +9,9 @@ use lib.ListN.{length, getD, drop, length-append, length-drop}
 use lib.Seq.{getD-drop}
 use borrow.Author.Tests.{le-leb}
 use Rattle.le.specs.Le.{le}
-use Rattle.cper_record.specs.Record.{countOf}
-use Rattle.cper_record.specs.Descriptor.{descriptorSize, offsetAt, lengthAt, descriptorOf, moved, normalDescriptor, descriptorBytes}
-use Rattle.cper_record.specs.declared.descr.CperSectionDescriptor.{CperSectionDescriptor}
+use Rattle.cper_header.specs.Record.{countOf}
+use Rattle.cper_descr.specs.Descriptor.{descriptorSize, offsetAt, lengthAt, descriptorOf, moved, normalDescriptor, descriptorBytes}
+use Rattle.cper_descr.specs.declared.CperSectionDescriptor.{CperSectionDescriptor}
 use Rattle.cper_sections.specs.Sections.{Section, descriptorAt, told, keeps, keptFrom, keptOf, bodyOf}
 use Rattle.cper.specs.Normal.{bodySizes, mostOutput, descriptorFor, descriptorsFor, bodiesOf}
 use Rattle.cper.proofs.Packed.{Inside, length-body, length-descriptor-for}

@@ -3,9 +3,9 @@
 use mathlib.Core.Path.{_≡_, refl}
 use Prim.Native.Nat.{_^_, _<_}
 use native.Mathlib.Omega.{arith}
-use Rattle.cper_record.specs.Fields.{severityOf, severityNumber}
-use Rattle.cper_record.specs.declared.fields.Severity.{Severity}
-use Rattle.cper_record.specs.declared.fields.Severity.the-variants.{Recoverable, Fatal, Corrected, Informational}
+use Rattle.cper_fields.specs.Fields.{severityOf, severityNumber}
+use Rattle.cper_fields.specs.declared.Severity.{Severity}
+use Rattle.cper_fields.specs.declared.Severity.the-variants.{Recoverable, Fatal, Corrected, Informational}
 
 pub severity-again : (s : Severity) → severityOf (severityNumber s) ≡ s
 severity-again Recoverable = refl

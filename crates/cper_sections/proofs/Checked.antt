@@ -9,7 +9,7 @@ use lib.ListN.{length}
 use borrow.Author.Tests.{lt-ltb, le-ltb, leb-true}
 use Rattle.le.specs.Le.{le}
 use Rattle.layout.proofs.Bools.{both}
-use Rattle.cper_record.specs.Record.{headerSize, signature, signatureEnd, startsWith, isCper}
+use Rattle.cper_header.specs.Record.{headerSize, signature, signatureEnd, startsWith, isCper}
 use Rattle.cper_sections.specs.Answers.{mostBytes, checked}
 
 module _ {A : Type 0} (cper : List ℕ) (long bad work : A) where

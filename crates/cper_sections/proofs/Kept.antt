@@ -10,9 +10,9 @@ use lib.Dec.{leb, ltb}
 use lib.ListN.{length}
 use borrow.Author.Tests.{leb-true}
 use Rattle.layout.proofs.Bools.{both}
-use Rattle.cper_record.specs.Record.{isCper, countOf}
+use Rattle.cper_header.specs.Record.{isCper, countOf}
 use Rattle.cper_sections.specs.Answers.{tooLong, notCper, mostBytes}
-use Rattle.cper_record.specs.Descriptor.{descriptorSize}
+use Rattle.cper_descr.specs.Descriptor.{descriptorSize}
 use Rattle.cper_sections.specs.Sections.{Section, descriptorAt, told, keeps, keptFrom, keptOf, placeIn, placeOf}
 use Rattle.cper_sections.specs.Steps.{bodyAt, section}
 use Rattle.cper_sections.specs.declared.Body.{Body}

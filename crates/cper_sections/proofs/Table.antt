@@ -12,7 +12,7 @@ use lib.Seq.{sets, sets-eq, length-sets, take-at, length-take-le}
 use borrow.Author.Tests.{lt-ltb, le-ltb}
 use Rattle.cper_sections.specs.Answers.{done, sectionsFull}
 use Rattle.cper_sections.specs.Sections.{Section, rowSize, rowsOf, listedIn}
-use Rattle.cper_record.proofs.Lists.{drop-past}
+use Rattle.cper_fields.proofs.Lists.{drop-past}
 
 -- a section's row written
 abbrev pub withRow : List ℕ → ℕ → Section → List ℕ

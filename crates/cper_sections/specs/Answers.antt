@@ -4,7 +4,7 @@ use mathlib.Core.List.{List}
 use mathlib.Core.Bool.{cond}
 use lib.Dec.{ltb}
 use lib.ListN.{length}
-use Rattle.cper_record.specs.Record.{isCper}
+use Rattle.cper_header.specs.Record.{isCper}
 use Rattle.cper_sections.specs.declared.Listed.{Listed}
 use Rattle.cper_sections.specs.declared.Listed.the-variants as listed
 use Rattle.cper_sections.specs.declared.Located.{Located}

@@ -5,8 +5,8 @@ use mathlib.Core.Bool.{Bool, cond, _&&_}
 use lib.Dec.{leb}
 use lib.ListN.{length, take, drop}
 use Rattle.le.specs.Le.{le}
-use Rattle.cper_record.specs.Record.{headerSize, countOf}
-use Rattle.cper_record.specs.Descriptor.{descriptorSize, offsetAt, lengthAt}
+use Rattle.cper_header.specs.Record.{headerSize, countOf}
+use Rattle.cper_descr.specs.Descriptor.{descriptorSize, offsetAt, lengthAt}
 use Rattle.cper_sections.specs.Answers.{done, tooLong, notCper, sectionsFull, none, checked}
 
 -- ---- which sections are kept

@@ -1,12 +1,10 @@
 // The kept sections of a UEFI Common Platform Error Record: as a table, and one of them as a part of the input.
-use cper_record::descr;
-use cper_record::header;
 ghost use mathlib.Core.Path.{_≡_};
 ghost use mathlib.Core.List.{[], _∷_};
 ghost use Prim.Native.Nat.{_+_, _*_, _≤_, _<_};
 ghost use lib.ListN.{length};
 ghost use lib.Seq.{sets};
-ghost use Rattle.cper_record.specs.Record.{headerSize};
+ghost use Rattle.cper_header.specs.Record.{headerSize};
 ghost use Rattle.cper_sections.specs.Answers.{listedNumbers, locatedNumbers};
 ghost use Rattle.cper_sections.specs.Sections.{descriptorAt, keptOf, rowSize, listedIn, sectionsOf, placeIn, placeOf, partAt};
 ghost use Rattle.cper_sections.specs.Steps.{bodyAt, spanOf};
@@ -50,7 +48,7 @@ pub fn descriptor_at(index: usize) -> usize
     requires { ⌜ index < 65536 ⌝ }
     ensures { λ r. ⌜ r ≡ descriptorAt index ⌝ }
 {
-    header::RECORD_HEADER_SIZE + descr::SECTION_DESCRIPTOR_SIZE * index
+    cper_header::RECORD_HEADER_SIZE + cper_descr::SECTION_DESCRIPTOR_SIZE * index
 }
 
 // The body that the descriptor with an index tells.
@@ -59,15 +57,15 @@ pub fn body_at(cper: &[u8], index: usize) -> Body
     ensures { λ r. ⌜ r ≡ bodyAt (now (cper .entry)) index ⌝ }
 {
     let at = descriptor_at(index);
-    if cper.len() < at + descr::SECTION_DESCRIPTOR_SIZE {
+    if cper.len() < at + cper_descr::SECTION_DESCRIPTOR_SIZE {
         return Body {
             kept: false,
             offset: 0,
             size: 0,
         };
     }
-    let offset = le::u32_at(cper, at + descr::SECTION_OFFSET_AT);
-    let size = le::u32_at(cper, at + descr::SECTION_LENGTH_AT);
+    let offset = le::u32_at(cper, at + cper_descr::SECTION_OFFSET_AT);
+    let size = le::u32_at(cper, at + cper_descr::SECTION_LENGTH_AT);
     if cper.len() < (offset as usize) + (size as usize) {
         return Body {
             kept: false,
@@ -98,7 +96,7 @@ fn list_kept(cper: &[u8], table: &mut [u32]) -> Listed
     requires { ⌜ headerSize ≤ length (now cper) ⌝ }
     ensures { λ r. ⌜ (now (table .exit), listedNumbers r) ≡ listedIn (now (table .entry)) (keptOf (now (cper .entry))) ⌝ }
 {
-    let count = header::section_count(cper) as usize;
+    let count = cper_header::section_count(cper) as usize;
     let room = table.len() / NUMBERS_IN_ROW;
     let mut rows: usize = 0;
     let mut index: usize = 0;
@@ -123,7 +121,7 @@ pub fn sections(cper: &[u8], table: &mut [u32]) -> Listed
     if MOST_BYTES < cper.len() {
         return Listed::TooLong;
     }
-    if !header::is_cper(cper) {
+    if !cper_header::is_cper(cper) {
         return Listed::NotCper;
     }
     list_kept(cper, table)
@@ -134,7 +132,7 @@ fn find_kept(cper: &[u8], row: u32) -> Located
     requires { ⌜ headerSize ≤ length (now cper) ⌝ }
     ensures { λ r. ⌜ locatedNumbers r ≡ placeIn (keptOf (now (cper .entry))) row ⌝ }
 {
-    let count = header::section_count(cper) as usize;
+    let count = cper_header::section_count(cper) as usize;
     let mut left = row;
     let mut index: usize = 0;
     while index < count {
@@ -160,7 +158,7 @@ pub fn section_at(cper: &[u8], row: u32) -> Located
     if MOST_BYTES < cper.len() {
         return Located::TooLong;
     }
-    if !header::is_cper(cper) {
+    if !cper_header::is_cper(cper) {
         return Located::NotCper;
     }
     find_kept(cper, row)

@@ -6,9 +6,9 @@ use Prim.Native.Nat.{ℕ, _+_, _≤_, _<_}
 use native.Mathlib.Omega.{arith}
 use lib.ListN.{length, drop}
 use borrow.Author.Tests.{le-leb, lt-leb}
-use Rattle.cper_record.specs.Record.{headerSize}
-use Rattle.cper_record.specs.Header.{headerOf, counted, normalHeader, headerBytes, bitsOf}
-use Rattle.cper_record.proofs.Lengths.{length-header-read}
+use Rattle.cper_header.specs.Record.{headerSize}
+use Rattle.cper_header.specs.Header.{headerOf, counted, normalHeader, headerBytes, bitsOf}
+use Rattle.cper_header.proofs.Lengths.{length-header-read}
 use Rattle.cper_sections.specs.Answers.{done}
 use Rattle.cper.specs.Answers.{outputShort}
 use Rattle.cper_sections.specs.Sections.{descriptorAt, keptOf}

@@ -3,9 +3,9 @@
 use mathlib.Core.Path.{ap, _∙_}
 use mathlib.Core.List.{_++_}
 use lib.ListN.{drop}
-use Rattle.cper_record.specs.Record.{headerSize}
-use Rattle.cper_record.specs.Header.{counted, normalHeader, headerBytes}
-use Rattle.cper_record.specs.declared.header.CperHeader.{CperHeader}
+use Rattle.cper_header.specs.Record.{headerSize}
+use Rattle.cper_header.specs.Header.{counted, normalHeader, headerBytes}
+use Rattle.cper_header.specs.declared.CperHeader.{CperHeader}
 use borrow.Author.Needs.{needs}
 use Rattle.cper.proofs.write_header.Statement.{statement}
 use Rattle.cper.proofs.write_header.Tie as tie

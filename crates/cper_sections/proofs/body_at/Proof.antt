@@ -8,7 +8,7 @@ use native.Mathlib.Omega.{arith}
 use lib.ListN.{length}
 use borrow.Author.Tests.{le-leb, lt-leb}
 use Rattle.le.specs.Le.{le}
-use Rattle.cper_record.specs.Descriptor.{descriptorSize, offsetAt, lengthAt}
+use Rattle.cper_descr.specs.Descriptor.{descriptorSize, offsetAt, lengthAt}
 use Rattle.cper_sections.specs.Sections.{descriptorAt, told}
 use Rattle.cper_sections.specs.Steps.{bodyAt}
 use borrow.Author.Needs.{needs}

@@ -1,4 +1,0 @@
-pub mod Descriptor
-pub mod Fields
-pub mod Header
-pub mod Record
