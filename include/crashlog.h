@@ -200,8 +200,7 @@ crashlog_listing crashlog_list(const uint8_t *region, size_t region_len, const u
  * Reads the header at the start of some bytes, of any length.
  *
  * Answers: DONE, BAD_RULES, BAD_HEADER, BAD_TYPE, ENDED. With DONE every field of *header is written; with any other answer
- * *header is as it was (the same values are stored again). Any values will do to begin with, but it must have some: zero it
- * once.
+ * *header is untouched. Nothing of it is read.
  */
 crashlog_judged crashlog_decode(const uint8_t *bytes, size_t bytes_len, const uint32_t *rules, size_t rules_len,
                                 crashlog_header *header);

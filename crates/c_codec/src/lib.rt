@@ -1,18 +1,18 @@
 // Headers decoded and encoded for C, with C's header by value: what is behind the pointers is the exported functions' affair.
 ghost use mathlib.Core.Path.{_≡_};
-ghost use mathlib.Core.Bool.{cond};
-ghost use Prim.Native.Nat.{_%_};
-ghost use lib.Dec.{eqb};
-ghost use Rattle.header.specs.Header.{decodedOf, typeTold};
-ghost use Rattle.header.specs.Header.{numberOf as decodeNumber};
+ghost use Prim.Native.Nat.{_%_, _<_};
+ghost use Rattle.frame.specs.Frame.{lacking, sizeOf};
+ghost use Rattle.header.specs.Header.{headerOf, decodedOf};
 ghost use Rattle.encode.specs.Encode.{numberOf as encodeNumber};
-ghost use Rattle.c_codec.specs.Codec.{decodeOut, encodeOut};
+ghost use Rattle.c_header.specs.Header.{headerOut};
+ghost use Rattle.c_codec.specs.Codec.{unseen, Judges, decodeOut, encodeOut};
 use c_answers::Written;
 use c_answers::low_byte;
 use c_answers::stated;
 use c_header::CHeader;
 use c_header::header_in;
 use c_header::header_out;
+use frame::Head;
 
 // crashlog_judged
 #[repr(C)]
@@ -29,35 +29,17 @@ const BAD_RULES: u32 = 2;
 
 const BAD_FIELD: u32 = 11;
 
+// What is told of some bytes, and of a record the word and the flags that its header is read by.
+pub struct Seen {
+    pub judged: Judged,
+    pub word: u32,
+    pub flags: u32,
+}
+
 // What a decode says, and the header that it leaves.
 pub struct Decoded {
     pub judged: Judged,
     pub header: CHeader,
-}
-
-fn decode_number(answer: header::Answer) -> u8
-    ensures { λ r. ⌜ r ≡ decodeNumber answer ⌝ }
-{
-    match answer {
-        header::Answer::Done => 0,
-        header::Answer::Ended => 254,
-        header::Answer::BadRules => 2,
-        header::Answer::BadHeader => 3,
-        header::Answer::BadType(_) => 4,
-    }
-}
-
-// The type of answer 4, else 0.
-fn decode_type(answer: header::Answer) -> u32
-    ensures { λ r. ⌜ r ≡ typeTold answer ⌝ }
-{
-    match answer {
-        header::Answer::BadType(header_type) => header_type,
-        header::Answer::Done => 0,
-        header::Answer::Ended => 0,
-        header::Answer::BadRules => 0,
-        header::Answer::BadHeader => 0,
-    }
 }
 
 fn encode_number(answer: encode::Answer) -> u32
@@ -77,32 +59,78 @@ fn low_word(x: usize) -> u32
     (x % 4294967296) as u32
 }
 
-// The new header with answer 0, else the old one.
-fn left_at(answer: u8, new: CHeader, old: CHeader) -> CHeader
-    ensures { λ r. ⌜ r ≡ cond (eqb answer 0) new old ⌝ }
+// A refusal by its number; the type is that of answer 4, else 0.
+fn refused(answer: u8, header_type: u32) -> Seen
+    ensures { λ r. ⌜ r ≡ unseen answer «header_type» ⌝ }
 {
-    if answer == 0 { new } else { old }
+    Seen {
+        judged: Judged {
+            answer: answer,
+            bad_type: low_byte(header_type),
+            flags: 0,
+            reserved: 0,
+            declared: 0,
+            header_size: 0,
+        },
+        word: 0,
+        flags: 0,
+    }
+}
+
+// What is told of the header at the start of some bytes, without the header.
+pub fn judge(bytes: &[u8], rules: &[u32]) -> Seen
+    ensures { λ r. ⌜ Judges (now (rules .entry)) (now (bytes .entry)) r ⌝ }
+{
+    if !rules::valid(rules) {
+        return refused(2, 0);
+    }
+    match frame::frame(bytes, rules) {
+        Head::Ended => refused(254, 0),
+        Head::BadHeader => refused(3, 0),
+        Head::BadType(header_type) => refused(4, header_type),
+        Head::Record {
+            word,
+            flags,
+            declared,
+            size,
+        } => Seen {
+            judged: Judged {
+                answer: 0,
+                bad_type: 0,
+                flags: low_byte(flags),
+                reserved: 0,
+                declared: low_word(declared),
+                header_size: low_word(size),
+            },
+            word: word,
+            flags: flags,
+        },
+    }
+}
+
+// The header itself, of bytes that were told to have one.
+pub fn header_at(bytes: &[u8], seen: Seen) -> CHeader
+    requires { ⌜ lacking < sizeOf (now bytes) (seen .word) (seen .flags) ⌝ }
+    ensures { λ r. ⌜ r ≡ headerOut (headerOf (now (bytes .entry)) (seen .word) (seen .flags)) ⌝ }
+{
+    header_out(header::header_of(bytes, seen.word, seen.flags))
 }
 
 // A decode, over the header that is there.
 pub fn decode_core(old: CHeader, bytes: &[u8], rules: &[u32]) -> Decoded
     ensures { λ r. ⌜ (r .header, r .judged) ≡ decodeOut old (decodedOf (now (rules .entry)) (now (bytes .entry))) ⌝ }
 {
-    let decoded = header::decode(bytes, rules);
-    let answer = decoded.answer;
-    let header = decoded.header;
-    let number = decode_number(answer);
-    let judged = Judged {
-        answer: number,
-        bad_type: low_byte(decode_type(answer)),
-        flags: low_byte(decoded.flags),
-        reserved: 0,
-        declared: low_word(decoded.declared),
-        header_size: low_word(decoded.header_size),
-    };
+    let seen = judge(bytes, rules);
+    let judged = seen.judged;
+    if judged.answer != 0 {
+        return Decoded {
+            judged,
+            header: old,
+        };
+    }
     Decoded {
         judged,
-        header: left_at(number, header_out(header), old),
+        header: header_at(bytes, seen),
     }
 }
 

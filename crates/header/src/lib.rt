@@ -98,7 +98,7 @@ pub struct Decoded {
 }
 
 // The header of a record whose word and flags are known and whose bytes are there.
-fn header_of(s: &[u8], word: u32, flags: u32) -> Header
+pub fn header_of(s: &[u8], word: u32, flags: u32) -> Header
     requires { ⌜ lacking < sizeOf (now s) word flags ⌝ }
     ensures { λ r. ⌜ r ≡ headerOf (now (s .entry)) word flags ⌝ }
 {

@@ -6,7 +6,6 @@ use mathlib.Core.List.{List}
 use Prim.Native.Nat.{ℕ, _%_}
 use borrow.Author.Tests.{not-true, not-false}
 use Rattle.rules.specs.Rules.{validOf}
-use Rattle.header.specs.declared.Header.{Header}
 use Rattle.encode.specs.Encode.{numberOf, answered, encodedOf}
 use Rattle.encode.specs.declared.Answer.the-variants.{BadRules}
 use Rattle.encode.specs.declared.Encoded.{Encoded}
