@@ -86,8 +86,8 @@ module _ (rules : List ℕ) (h : Header) where
   unfolding encodable
   can-fit e = both chosen fit (both (readable word) (chosen && fit) (both (versionFits (h .version)) (readable word && (chosen && fit)) e .1) .1) .1
 
--- a header that can be encoded has at most 127 status words
-few-statuses : (t : HeaderType) (rev ext : ℕ) → fieldsFit t rev ext ≡ true → countIn t ≤ 127
+-- a header whose fields fit has at most 127 status words
+pub few-statuses : (t : HeaderType) (rev ext : ℕ) → fieldsFit t rev ext ≡ true → countIn t ≤ 127
 few-statuses Type0 rev ext e = omega arith
 few-statuses Type1 rev ext e = omega arith
 few-statuses (Type2 t a r) rev ext e = omega arith

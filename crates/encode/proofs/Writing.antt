@@ -1,35 +1,46 @@
--- What is known of a header's fields at the layout that a match finds, and what writing that layout makes of the header.
--- By putting the layout found in the place of the header's own. Assumes nothing.
-use mathlib.Core.Path.{_≡_, sym, ap, _∙_}
-use mathlib.Core.Bool.{true}
-use mathlib.Core.List.{List}
-use Prim.Native.Nat.{ℕ, _≤_}
-use Rattle.layout.specs.Fields.{writeAll}
-use Rattle.frame.specs.Version.{wordFrom}
-use Rattle.header.specs.Layouts.{tableOf}
-use Rattle.header.specs.Access.{layoutIn, countIn, headerSize}
+-- Of a header whose fields fit, what is written beside other bits is small: a status that shares its word, and the count of status words.
+-- By the layout. Assumes nothing.
+use mathlib.Core.Path.{_≡_}
+use mathlib.Core.Bool.{true, _&&_}
+use Prim.Native.Nat.{ℕ, _≤_, _<_}
+use native.Mathlib.Omega.{arith}
+use lib.Dec.{eqb}
+use borrow.Author.Tests.{ltb-true}
+use Rattle.layout.proofs.Bools.{both}
+use Rattle.header.specs.Layouts.{serverDie}
+use Rattle.header.specs.Access.{countIn}
 use Rattle.header.specs.declared.Header.{Header}
 use Rattle.header.specs.declared.HeaderType.{HeaderType}
-use Rattle.header.specs.declared.fields.Stamp.{Stamp}
-use Rattle.encode.specs.Values.{stampIn, valuesFor, valuesOf}
-use Rattle.encode.specs.Fit.{fieldsFit}
+use Rattle.header.specs.declared.HeaderType.the-variants.{Type0, Type1, Type2, Type3, Type4, Type5, Type6, Type0LegacyServer, Type0LegacyGpu}
+use Rattle.encode.specs.Fit.{statusFits, fieldsFit}
+use Rattle.encode.proofs.Fitting.{few-statuses}
 
-module _ {t k : HeaderType} (told : t ≡ k) where
-  pub room-at : (n : ℕ) → headerSize t ≤ n → headerSize k ≤ n
-  room-at n h = rw told at h
+-- the status that shares its word with complete
+abbrev pub statusIn : HeaderType → ℕ
+statusIn Type0 = 0
+statusIn Type1 = 0
+statusIn (Type2 t a r) = 0
+statusIn (Type3 t a r s c) = s
+statusIn (Type4 t a r w m) = 0
+statusIn (Type5 t a r s c e) = s
+statusIn (Type6 t a r d k n c) = 0
+statusIn (Type0LegacyServer t a r d k s c) = s
+statusIn (Type0LegacyGpu t a r s c) = s
 
-  pub fits-at : (rev ext : ℕ) → fieldsFit t rev ext ≡ true → fieldsFit k rev ext ≡ true
-  fits-at rev ext h = rw told at h
+small : (t : HeaderType) (rev ext : ℕ) → fieldsFit t rev ext ≡ true → statusIn t < 2147483648
+small Type0 rev ext e = omega arith
+small Type1 rev ext e = omega arith
+small (Type2 t a r) rev ext e = omega arith
+small (Type3 t a r s c) rev ext e = ltb-true s 2147483648 e
+small (Type4 t a r w m) rev ext e = omega arith
+small (Type5 t a r s c d) rev ext e = ltb-true s 2147483648 e
+small (Type6 t a r d k n c) rev ext e = omega arith
+small (Type0LegacyServer t a r d k s c) rev ext e = ltb-true s 2147483648 (both (statusFits s) (eqb ext 0 && eqb d (serverDie rev)) e .0)
+small (Type0LegacyGpu t a r s c) rev ext e = ltb-true s 2147483648 (both (statusFits s) (eqb ext 0) e .0)
 
-  pub stamp-at : {p : Stamp} → p ≡ stampIn t → p ≡ stampIn k
-  stamp-at e = e ∙ ap stampIn told
+module _ (h : Header) (fit : fieldsFit (h .«header_type») (h .version .revision) (h .size .«extended_record_size») ≡ true) where
+  pub small-status : statusIn (h .«header_type») < 2147483648
+  small-status = small (h .«header_type») (h .version .revision) (h .size .«extended_record_size») fit
 
-pub written-at : (h : Header) (bs : List ℕ) {k : HeaderType} {word : ℕ} {out : List ℕ}
-    → h .«header_type» ≡ k → word ≡ wordFrom (h .version)
-    → out ≡ writeAll (tableOf (layoutIn k) (countIn k)) (valuesFor word (h .size) k (h .«completion_statuses»)) bs
-    → out ≡ writeAll (tableOf (layoutIn (h .«header_type»)) (countIn (h .«header_type»))) (valuesOf h) bs
-unfolding valuesOf
-written-at h bs {word = word} told e f =
-    f
-    ∙ ap (λ (k : HeaderType). writeAll (tableOf (layoutIn k) (countIn k)) (valuesFor word (h .size) k (h .«completion_statuses»)) bs) (sym told)
-    ∙ ap (λ (n : ℕ). writeAll (tableOf (layoutIn (h .«header_type»)) (countIn (h .«header_type»))) (valuesFor n (h .size) (h .«header_type») (h .«completion_statuses»)) bs) e
+  pub few-words : countIn (h .«header_type») ≤ 127
+  few-words = few-statuses (h .«header_type») (h .version .revision) (h .size .«extended_record_size») fit
