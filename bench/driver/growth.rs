@@ -37,7 +37,7 @@ pub fn report(rules: &[u32]) {
             listing::times(&region, rules, &mut spans).median(LIBRARY)
         });
     }
-    let mut out = vec![0; MIB];
+    let mut out = normalising::output();
     line("normalising, 1 section", |length| normalise_time(1, length, &mut out));
     line("normalising, a section for each 104 bytes", |length| {
         normalise_time((length - 128) / BYTES_A_SECTION, length, &mut out)

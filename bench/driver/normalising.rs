@@ -10,6 +10,14 @@ use std::hint::black_box;
 
 const SECTIONS: [usize; 3] = [1, 100, 10_000];
 
+const PAGE: usize = 4096;
+const STEP: usize = 272;
+
+/// Room for the normal form of any CPER here, wherever in the first page it starts.
+pub fn output() -> Vec<u8> {
+    vec![0; MIB + PAGE]
+}
+
 /// All write the same.
 pub fn check(cper: &[u8], out: &mut [u8]) {
     let [plain, proved] = [PLAIN, PROVED].map(|library| {
@@ -22,12 +30,14 @@ pub fn check(cper: &[u8], out: &mut [u8]) {
     rust::check_normal_form(cper, &proved.1[..proved.0.length as usize]);
 }
 
+/// The output starts elsewhere in a page with each call: how input and output lie to each other changes the times.
 pub fn times(cper: &[u8], out: &mut [u8]) -> Times {
     let out = RefCell::new(out);
     let work = |library: Library| {
-        let out = &out;
+        let (out, mut start) = (&out, 0);
         move || {
-            black_box(library.normalise(black_box(cper), &mut out.borrow_mut()));
+            start = (start + STEP) % PAGE;
+            black_box(library.normalise(black_box(cper), &mut out.borrow_mut()[start..]));
         }
     };
     let mut candidates: Vec<Candidate> = vec![(C, Box::new(work(PLAIN))), (LIBRARY, Box::new(work(PROVED)))];
@@ -37,7 +47,7 @@ pub fn times(cper: &[u8], out: &mut [u8]) -> Times {
 
 pub fn report() -> Vec<Measured> {
     heading("Normalising a CPER of up to 1 MiB", &compared(&["sections", "bytes in each body", "library, µs"]));
-    let mut out = vec![0; MIB];
+    let mut out = output();
     let mut measured = Vec::new();
     for sections in SECTIONS {
         let cper = inputs::cper(sections, MIB);
