@@ -60,7 +60,7 @@ pub fn report() -> Vec<Measured> {
         ];
         cells.extend(ratios(&times));
         row(&cells);
-        measured.push(Measured { input: format!("{sections} sections"), times });
+        measured.push(Measured { input: format!("sections: {sections}"), times });
     }
     measured
 }
