@@ -90,11 +90,11 @@ static size_t lent_bytes(const struct request *asked)
     }
 }
 
-/* The bytes that the request says are written, and those at a header's end that hold no field. */
+/* The bytes that the request says are written; a header is written with the bytes at its end that hold no field. */
 static int may_change(const struct request *asked, size_t at)
 {
-    int padding = asked->call == HEADERS && at >= GUARD + FIELD_BYTES && at < GUARD + sizeof(crashlog_header);
-    return padding || (at >= GUARD && at < GUARD + asked->written);
+    size_t written = asked->call == HEADERS && asked->written > 0 ? sizeof(crashlog_header) : asked->written;
+    return at >= GUARD && at < GUARD + written;
 }
 
 /* The input and the rules of a request, each ending where memory ends. */
