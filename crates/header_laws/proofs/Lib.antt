@@ -1,5 +1,4 @@
 pub mod Bits
-pub mod Tables
 pub mod Layouts
 pub mod Numbers
 pub mod Unread

@@ -11,6 +11,7 @@ use borrow.Author.Tests.{ltb-true, leb-true, eqb-true}
 use Rattle.le.specs.Le.{le}
 use Rattle.layout.specs.Fields.{Field, Below, readAll}
 use Rattle.layout.proofs.Bools.{both}
+use Rattle.layout.proofs.Runs.{below-cells}
 use Rattle.frame.specs.Version.{versionOf, revision}
 use Rattle.frame.specs.Frame.{layoutOf, countOf}
 use Rattle.frame.specs.declared.version.Version.{Version}
@@ -26,7 +27,6 @@ use Rattle.encode.specs.Fit.{statusFits, fieldsFit}
 use Rattle.encode.specs.Values.{valuesFor}
 use Rattle.header_laws.specs.Typed.{U16, U32, TypedFields}
 use Rattle.header_laws.proofs.Bits.{status-low, status-top, status-lt, half-low, half-top, half-lt}
-use Rattle.header_laws.proofs.Tables.{below-cells}
 use Rattle.header_laws.proofs.Layouts.{isLegacy, legacy-layout}
 
 -- ---- a header's parts

@@ -13,6 +13,7 @@ use Rattle.le.proofs.Laws.{le-lt, length-put}
 use Rattle.layout.specs.Fields.{Field, readAll}
 use Rattle.layout.specs.Runs.{cells}
 use Rattle.layout.proofs.Full.{full-fits}
+use Rattle.layout.proofs.Puts.{pow-positive, fieldAt, read-put, put-bytes}
 use Rattle.frame.specs.Version.{revision}
 use Rattle.frame.specs.Frame.{lacking, sizeFor, countOf}
 use Rattle.frame.specs.declared.Layout.{Layout}
@@ -26,7 +27,6 @@ use Rattle.encode.proofs.Tables.{tables-full}
 use Rattle.header_laws.specs.Typed.{Bytes}
 use Rattle.header_laws.specs.Rounds.{cleanHalf, unreadZero}
 use Rattle.header_laws.proofs.Bits.{status-back, half-back}
-use Rattle.header_laws.proofs.Tables.{pow-positive, fieldAt, read-put, put-bytes}
 use Rattle.header_laws.proofs.Layouts.{isLegacy}
 use Rattle.header_laws.proofs.Numbers.{Parts, sizesAt, partsAt}
 

@@ -2,4 +2,5 @@ pub mod Bools
 pub mod Digits
 pub mod Fields
 pub mod Full
+pub mod Puts
 pub mod Runs

@@ -2,13 +2,13 @@
 -- By induction over the count: the last number is one more field. Assumes nothing.
 use mathlib.Core.Path.{_≡_, refl, sym, ap, ap₂, _∙_}
 use mathlib.Core.List.{List, [], _∷_, _++_}
-use Prim.Native.Nat.{ℕ, zero, suc, _+_, _*_, _≤_}
+use Prim.Native.Nat.{ℕ, zero, suc, _+_, _*_, _^_, _≤_, _<_}
 use native.Mathlib.Nat.{add-zero, zero-add}
 use native.Mathlib.Omega.{arith}
 use lib.ListN.{length, getD, take}
 use lib.Seq.{take-suc, length-take-le}
 use Rattle.le.specs.Le.{le, put}
-use Rattle.layout.specs.Fields.{Field, field, readAll, writeAll}
+use Rattle.layout.specs.Fields.{Field, field, Below, readAll, writeAll}
 use Rattle.layout.specs.Runs.{cellsFrom, cells, putRun}
 
 pub read-append : (fs gs : List Field) (bs : List ℕ) → readAll (fs ++ gs) bs ≡ readAll fs bs ++ readAll gs bs
@@ -28,6 +28,12 @@ write-append (f ∷ fs) gs (v ∷ vs) ws bs e = write-append fs gs vs ws (put (f
 pub length-cells : (at w k n : ℕ) → length (cellsFrom at w k n) ≡ n
 length-cells at w k zero = refl
 length-cells at w k (suc n) = ap suc (length-cells at w (suc k) n)
+
+-- numbers that fit the width of a run are below its fields
+pub below-cells : (at w k n : ℕ) (vs : List ℕ) → n ≤ length vs → ((i : ℕ) → getD vs i 0 < 256 ^ w) → Below (cellsFrom at w k n) (take n vs)
+below-cells at w k zero vs h b = tt
+below-cells at w k (suc n) [] h b = absurd (omega arith)
+below-cells at w k (suc n) (v ∷ vs) h b = (b 0, below-cells at w (suc k) n vs (omega arith) (λ i. b (suc i)))
 
 -- the last number of a run
 pub last-cell : (at w k n : ℕ) → cellsFrom at w k (suc n) ≡ cellsFrom at w k n ++ (field (at + w * (k + n)) w ∷ [])

@@ -1,30 +1,24 @@
--- Two laws of tables: numbers that fit a run's width are below its fields; a number put at a field changes that number alone of those that are read.
--- By induction over the run and over the table. Assumes nothing.
+-- A number put at a field of a table changes that number alone of those that are read, and leaves bytes bytes.
+-- By induction over the table and over the width. Assumes nothing.
 use mathlib.Core.Path.{_≡_, refl, ap₂, _∙_}
 use mathlib.Core.List.{List, [], _∷_}
 use mathlib.Core.Logic.{inl, inr}
 use Prim.Native.Nat.{ℕ, zero, suc, _+_, _/_, _%_, _^_, _≤_, _<_}
 use native.Mathlib.Nat.{mod-eq-of-lt, mod-lt, pow-le-pow-right}
 use native.Mathlib.Omega.{arith}
-use lib.ListN.{length, getD, set, take}
+use lib.ListN.{length, getD, set}
 use Rattle.le.specs.Le.{put}
 use Rattle.le.proofs.Laws.{le-put, le-put-other}
-use Rattle.layout.specs.Fields.{Field, field, Fits, Below, readAll}
-use Rattle.layout.specs.Runs.{cellsFrom}
+use Rattle.layout.specs.Fields.{Field, field, Fits, readAll}
 use Rattle.layout.proofs.Fields.{fits-end}
-
-pub below-cells : (at w k n : ℕ) (vs : List ℕ) → n ≤ length vs → ((i : ℕ) → getD vs i 0 < 256 ^ w) → Below (cellsFrom at w k n) (take n vs)
-below-cells at w k zero vs h b = tt
-below-cells at w k (suc n) [] h b = absurd (omega arith)
-below-cells at w k (suc n) (v ∷ vs) h b = (b 0, below-cells at w (suc k) n vs (omega arith) (λ i. b (suc i)))
 
 -- every field holds 0
 pub pow-positive : (w : ℕ) → 0 < 256 ^ w
 pow-positive w = pow-le-pow-right {n = 256} (omega arith) {i = 0} {j = w} (omega arith)
 
--- ---- a number put at a field
+-- ---- what is read
 
--- before the fields
+-- a number put before the fields
 read-put-before : (n w at lo : ℕ) (fs : List Field) (bs : List ℕ) (x : ℕ) → at + w ≤ lo → Fits lo fs n → readAll fs (put w bs at x) ≡ readAll fs bs
 unfolding readAll
 read-put-before n w at lo [] bs x h p = refl
