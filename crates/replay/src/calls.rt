@@ -1,20 +1,20 @@
 // The calls, one for each kind of case. A call gets the case's room of a lent buffer, which is untouched before; each function
 // says whether what the call told is `told` and whether the whole buffer then holds `left`.
-use crate::agree::UNTOUCHED;
-use crate::agree::left_bytes;
-use crate::agree::left_words;
-use crate::agree::tells;
-use crate::case::bytes_within;
-use crate::case::part;
-use crate::case::words_within;
-use crate::header_words::BYTES;
-use crate::header_words::FIXED_BYTES;
-use crate::header_words::fixed_words;
-use crate::header_words::header_in;
 use c_answers::Written;
 use c_codec::decode_core;
 use c_codec::encode_core;
 use c_header::CHeader;
+use cases::agree::UNTOUCHED;
+use cases::agree::left_bytes;
+use cases::agree::left_words;
+use cases::agree::tells;
+use cases::case::bytes_within;
+use cases::case::part;
+use cases::case::words_within;
+use cases::header_words::BYTES;
+use cases::header_words::FIXED_BYTES;
+use cases::header_words::fixed_words;
+use cases::header_words::header_in;
 
 fn left_header(header: CHeader, left: &[u8]) -> bool {
     let fixed = fixed_words(header);

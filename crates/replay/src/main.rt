@@ -1,27 +1,24 @@
 // Runs the library on a fixed list of cases and compares all that each call tells and leaves with what the list says.
-// The list is a file for each kind of call, in the folder that the program runs in. `case.rt` says how a case is laid out.
-use agree::UNTOUCHED;
-use agree::UNTOUCHED_WORD;
-use case::Case;
-use case::MOST_CASE;
-use case::MOST_INPUT;
-use case::bytes_within;
-use case::case_of;
-use case::first_words;
-use case::is_sound;
-use case::left_of;
-use case::part;
-use case::repeat;
-use case::rules_of;
-use case::stored_of;
-use case::told_of;
-use case::u32_in;
+// The list is a file for each kind of call, in the folder that the program runs in. The crate `cases` says how a case is laid out.
+use cases::agree::UNTOUCHED;
+use cases::agree::UNTOUCHED_WORD;
+use cases::case::Case;
+use cases::case::MOST_CASE;
+use cases::case::MOST_INPUT;
+use cases::case::bytes_within;
+use cases::case::case_of;
+use cases::case::first_words;
+use cases::case::is_sound;
+use cases::case::left_of;
+use cases::case::part;
+use cases::case::repeat;
+use cases::case::rules_of;
+use cases::case::stored_of;
+use cases::case::told_of;
+use cases::case::u32_in;
 use libc::STDOUT_FILENO;
 
-mod agree;
 mod calls;
-mod case;
-mod header_words;
 
 // More cases than any file has.
 const MOST_CASES: u64 = 65536;

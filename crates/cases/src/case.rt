@@ -13,28 +13,28 @@ ghost use Prim.Native.Nat.{_≤_};
 ghost use lib.ListN.{length};
 ghost use Rattle.io.specs.Counts.{Counts};
 
-pub(crate) const MOST_CASE: usize = 262144;
+pub const MOST_CASE: usize = 262144;
 
-pub(crate) const MOST_RULES: usize = 256;
+pub const MOST_RULES: usize = 256;
 
-pub(crate) const MOST_INPUT: usize = 1048577;
+pub const MOST_INPUT: usize = 1048577;
 
 const TOLD: usize = 32;
 
 const HEAD: usize = 80;
 
-pub(crate) struct Case {
-    pub(crate) source: u32,
-    pub(crate) rules: usize,
-    pub(crate) number: u64,
-    pub(crate) room: usize,
-    pub(crate) length: usize,
-    pub(crate) stored: usize,
-    pub(crate) left: usize,
+pub struct Case {
+    pub source: u32,
+    pub rules: usize,
+    pub number: u64,
+    pub room: usize,
+    pub length: usize,
+    pub stored: usize,
+    pub left: usize,
 }
 
 // The number at a place, 0 where the bytes end before it.
-pub(crate) fn u32_in(bytes: &[u8], at: usize) -> u32 {
+pub fn u32_in(bytes: &[u8], at: usize) -> u32 {
     if bytes.len() < 4 {
         return 0;
     }
@@ -44,7 +44,7 @@ pub(crate) fn u32_in(bytes: &[u8], at: usize) -> u32 {
     le::u32_at(bytes, at)
 }
 
-pub(crate) fn u64_in(bytes: &[u8], at: usize) -> u64 {
+pub fn u64_in(bytes: &[u8], at: usize) -> u64 {
     if bytes.len() < 8 {
         return 0;
     }
@@ -54,7 +54,7 @@ pub(crate) fn u64_in(bytes: &[u8], at: usize) -> u64 {
     le::u64_at(bytes, at)
 }
 
-pub(crate) fn case_of(bytes: &[u8]) -> Case {
+pub fn case_of(bytes: &[u8]) -> Case {
     Case {
         source: u32_in(bytes, 0),
         rules: u32_in(bytes, 4) as usize,
@@ -66,14 +66,14 @@ pub(crate) fn case_of(bytes: &[u8]) -> Case {
     }
 }
 
-pub(crate) fn least(a: usize, b: usize) -> usize
+pub fn least(a: usize, b: usize) -> usize
     ensures { λ r. ⌜ (r ≤ a) × (r ≤ b) ⌝ }
 {
     if a < b { a } else { b }
 }
 
 // Some of the bytes, cut where they end.
-pub(crate) fn part(bytes: &[u8], from: usize, len: usize) -> &[u8]
+pub fn part(bytes: &[u8], from: usize, len: usize) -> &[u8]
     ensures { λ r. ⌜ length (now r) ≤ len ⌝ }
 {
     if bytes.len() < from {
@@ -93,26 +93,26 @@ fn after_rules(bytes: &[u8], case: Case) -> &[u8] {
 }
 
 // A count, cut to a buffer's length.
-pub(crate) fn bytes_within(count: usize, buffer: &[u8]) -> usize
+pub fn bytes_within(count: usize, buffer: &[u8]) -> usize
     ensures { λ r. ⌜ Counts r (now (buffer .entry)) ⌝ }
 {
     least(count, buffer.len())
 }
 
-pub(crate) fn words_within(count: usize, table: &[u32]) -> usize
+pub fn words_within(count: usize, table: &[u32]) -> usize
     ensures { λ r. ⌜ Counts r (now (table .entry)) ⌝ }
 {
     least(count, table.len())
 }
 
 // The first words of a table, cut where it ends.
-pub(crate) fn first_words(table: &[u32], count: usize) -> &[u32] {
+pub fn first_words(table: &[u32], count: usize) -> &[u32] {
     let end = words_within(count, table);
     &table[..end]
 }
 
 // Whether a case's parts are as long as it says and within the limits.
-pub(crate) fn is_sound(bytes: &[u8], case: Case) -> bool {
+pub fn is_sound(bytes: &[u8], case: Case) -> bool {
     if MOST_RULES < case.rules {
         return false;
     }
@@ -129,20 +129,20 @@ pub(crate) fn is_sound(bytes: &[u8], case: Case) -> bool {
     is_whole & is_input & is_filled
 }
 
-pub(crate) fn told_of(bytes: &[u8]) -> &[u8] {
+pub fn told_of(bytes: &[u8]) -> &[u8] {
     part(bytes, TOLD, HEAD - TOLD)
 }
 
-pub(crate) fn stored_of(bytes: &[u8], case: Case) -> &[u8] {
+pub fn stored_of(bytes: &[u8], case: Case) -> &[u8] {
     part(after_rules(bytes, case), 0, case.stored)
 }
 
-pub(crate) fn left_of(bytes: &[u8], case: Case) -> &[u8] {
+pub fn left_of(bytes: &[u8], case: Case) -> &[u8] {
     part(after_rules(bytes, case), case.stored, case.left)
 }
 
 // The word of 4 bytes with an index, or `past` where the bytes end before it.
-pub(crate) fn word_in(bytes: &[u8], i: usize, past: u32) -> u32 {
+pub fn word_in(bytes: &[u8], i: usize, past: u32) -> u32 {
     if i < bytes.len() / 4 {
         u32_in(bytes, 4 * i)
     } else {
@@ -151,7 +151,7 @@ pub(crate) fn word_in(bytes: &[u8], i: usize, past: u32) -> u32 {
 }
 
 // Fills a table with the words that some bytes start with; what is past their end is 0.
-pub(crate) fn words_in(bytes: &[u8], words: &mut [u32]) {
+pub fn words_in(bytes: &[u8], words: &mut [u32]) {
     let mut i = 0;
     while i < words.len() {
         words[i] = word_in(bytes, i, 0);
@@ -160,7 +160,7 @@ pub(crate) fn words_in(bytes: &[u8], words: &mut [u32]) {
 }
 
 // The rule table at the start of an array.
-pub(crate) fn rules_of(bytes: &[u8]) -> [u32; MOST_RULES] {
+pub fn rules_of(bytes: &[u8]) -> [u32; MOST_RULES] {
     let mut rules = [0u32; MOST_RULES];
     words_in(part(bytes, HEAD, 4 * MOST_RULES), &mut rules);
     rules
@@ -175,7 +175,7 @@ fn repeated(bytes: &[u8], i: usize) -> u8 {
 }
 
 // Fills so many bytes of the input: the stored bytes, and these again after them.
-pub(crate) fn repeat(stored: &[u8], input: &mut [u8], count: usize) {
+pub fn repeat(stored: &[u8], input: &mut [u8], count: usize) {
     let end = least(count, input.len());
     let mut i = 0;
     while i < end {

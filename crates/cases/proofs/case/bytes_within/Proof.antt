@@ -4,8 +4,8 @@ use native.Mathlib.Omega.{arith}
 use borrow.Author.Needs.{needs}
 use mathlib.Core.Path.{sym}
 use lib.Seq.{length-take-le}
-use Rattle.replay.proofs.case.bytes_within.Statement.{statement}
-use Rattle.replay.proofs.case.bytes_within.Tie as tie
+use Rattle.cases.proofs.case.bytes_within.Statement.{statement}
+use Rattle.cases.proofs.case.bytes_within.Tie as tie
 
 least-requires : tie.Need-least-requires
 least-requires c κs = search needs

@@ -3,9 +3,9 @@ use crate::case::u64_in;
 use crate::case::word_in;
 
 // What lent buffers hold before a call.
-pub(crate) const UNTOUCHED: u8 = 0xa5;
+pub const UNTOUCHED: u8 = 0xa5;
 
-pub(crate) const UNTOUCHED_WORD: u32 = 0xa5a5a5a5;
+pub const UNTOUCHED_WORD: u32 = 0xa5a5a5a5;
 
 fn byte_wanted(wanted: &[u8], i: usize) -> u8 {
     if i < wanted.len() {
@@ -16,7 +16,7 @@ fn byte_wanted(wanted: &[u8], i: usize) -> u8 {
 }
 
 // Whether the six numbers told are those at the start of some bytes.
-pub(crate) fn tells(numbers: [u64; 6], wanted: &[u8]) -> bool {
+pub fn tells(numbers: [u64; 6], wanted: &[u8]) -> bool {
     let mut same = true;
     let mut i = 0;
     while i < 6 {
@@ -27,7 +27,7 @@ pub(crate) fn tells(numbers: [u64; 6], wanted: &[u8]) -> bool {
 }
 
 // Whether a buffer of bytes starts with those wanted and is else untouched.
-pub(crate) fn left_bytes(buffer: &[u8], wanted: &[u8]) -> bool {
+pub fn left_bytes(buffer: &[u8], wanted: &[u8]) -> bool {
     let mut same = wanted.len() <= buffer.len();
     let mut i = 0;
     while i < buffer.len() {
@@ -38,7 +38,7 @@ pub(crate) fn left_bytes(buffer: &[u8], wanted: &[u8]) -> bool {
 }
 
 // Whether a table starts with the numbers wanted, 4 bytes each, and is else untouched.
-pub(crate) fn left_words(table: &[u32], wanted: &[u8]) -> bool {
+pub fn left_words(table: &[u32], wanted: &[u8]) -> bool {
     let mut same = wanted.len() / 4 <= table.len();
     let mut i = 0;
     while i < table.len() {

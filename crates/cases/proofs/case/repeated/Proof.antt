@@ -3,8 +3,8 @@
 use native.Mathlib.Omega.{arith}
 use native.Mathlib.Nat.{mod-lt}
 use borrow.Author.Needs.{needs}
-use Rattle.replay.proofs.case.repeated.Statement.{statement}
-use Rattle.replay.proofs.case.repeated.Tie as tie
+use Rattle.cases.proofs.case.repeated.Statement.{statement}
+use Rattle.cases.proofs.case.repeated.Tie as tie
 
 returns : tie.Need-returns
 returns c = search needs

@@ -4,8 +4,8 @@ use Prim.Native.Nat.{_-_}
 use mathlib.Core.Path.{_≡_}
 use lib.ListN.{length}
 use borrow.Author.Needs.{needs}
-use Rattle.replay.proofs.case.words_in.Statement.{statement}
-use Rattle.replay.proofs.case.words_in.Tie as tie
+use Rattle.cases.proofs.case.words_in.Statement.{statement}
+use Rattle.cases.proofs.case.words_in.Tie as tie
 
 abbrev Inv-loop : tie.InvT-loop
 Inv-loop bytes words₀ i₀ words i = length words ≡ length words₀

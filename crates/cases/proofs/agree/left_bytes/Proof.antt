@@ -3,8 +3,8 @@
 use Prim.Native.Nat.{_-_}
 use lib.ListN.{length}
 use borrow.Author.Needs.{needs}
-use Rattle.replay.proofs.agree.left_bytes.Statement.{statement}
-use Rattle.replay.proofs.agree.left_bytes.Tie as tie
+use Rattle.cases.proofs.agree.left_bytes.Statement.{statement}
+use Rattle.cases.proofs.agree.left_bytes.Tie as tie
 
 abbrev Inv-loop : tie.InvT-loop
 Inv-loop buffer wanted same₀ i₀ same i = Unit {0}

@@ -2,8 +2,8 @@
 -- The index is below 6 in the loop; what is left of the six numbers falls. Assumes nothing.
 use Prim.Native.Nat.{_-_}
 use borrow.Author.Needs.{needs}
-use Rattle.replay.proofs.agree.tells.Statement.{statement}
-use Rattle.replay.proofs.agree.tells.Tie as tie
+use Rattle.cases.proofs.agree.tells.Statement.{statement}
+use Rattle.cases.proofs.agree.tells.Tie as tie
 
 abbrev Inv-loop : tie.InvT-loop
 Inv-loop wanted numbers same₀ i₀ same i = Unit {0}

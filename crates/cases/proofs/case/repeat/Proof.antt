@@ -4,8 +4,8 @@ use Prim.Native.Nat.{_-_}
 use mathlib.Core.Path.{_≡_}
 use lib.ListN.{length}
 use borrow.Author.Needs.{needs}
-use Rattle.replay.proofs.case.repeat.Statement.{statement}
-use Rattle.replay.proofs.case.repeat.Tie as tie
+use Rattle.cases.proofs.case.repeat.Statement.{statement}
+use Rattle.cases.proofs.case.repeat.Tie as tie
 
 abbrev Inv-loop : tie.InvT-loop
 Inv-loop stored input₀ count end i₀ input i = length input ≡ length input₀

@@ -6,9 +6,9 @@ use crate::case::words_in;
 use c_header::CHeader;
 
 // The bytes of the struct, and of the words before the status words.
-pub(crate) const BYTES: usize = 564;
+pub const BYTES: usize = 564;
 
-pub(crate) const FIXED_BYTES: usize = 56;
+pub const FIXED_BYTES: usize = 56;
 
 const STATUSES: usize = 127;
 
@@ -35,7 +35,7 @@ fn statuses_in(bytes: &[u8]) -> [u32; STATUSES] {
 }
 
 // The header that lies in some bytes; what is past their end is 0.
-pub(crate) fn header_in(bytes: &[u8]) -> CHeader {
+pub fn header_in(bytes: &[u8]) -> CHeader {
     let sizes = u32_in(bytes, 40);
     let more_sizes = u32_in(bytes, 44);
     let marks = u32_in(bytes, 48);
@@ -79,7 +79,7 @@ fn low_word(x: u64) -> u32 {
 }
 
 // The words before the status words.
-pub(crate) fn fixed_words(h: CHeader) -> [u32; 14] {
+pub fn fixed_words(h: CHeader) -> [u32; 14] {
     [
         low_word(h.timestamp),
         low_word(h.timestamp / 4294967296),
