@@ -25,7 +25,7 @@ use Rattle.header.specs.declared.Answer as answer
 use Rattle.header.specs.declared.Decoded.{Decoded}
 use Rattle.header.specs.declared.Header.{Header}
 use Rattle.header.specs.Access.{layoutIn, countIn, headerSize}
-use Rattle.encode.specs.Values.{headerBytes}
+use Rattle.header_bytes.specs.Values.{headerBytes}
 use Rattle.encode.specs.Encode.{encodable, answered, encodedOf}
 use Rattle.encode.specs.Encode.{numberOf as encodeNumber}
 use Rattle.encode.specs.declared.Answer.{Answer}

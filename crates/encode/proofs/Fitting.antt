@@ -6,7 +6,7 @@ use mathlib.Core.List.{List}
 use Prim.Native.Nat.{ℕ, _≤_, _<_}
 use native.Mathlib.Omega.{arith}
 use lib.Dec.{eqb, leb, ltb}
-use borrow.Author.Tests.{ltb-true, leb-true, eq-eqb, ne-eqb}
+use borrow.Author.Tests.{ltb-true, eq-eqb, ne-eqb}
 use Rattle.layout.proofs.Bools.{both}
 use Rattle.rules.specs.Rules.{flagsOf}
 use Rattle.frame.specs.Version.{InBits, ended, wordFrom}
@@ -14,9 +14,8 @@ use Rattle.frame.specs.Frame.{layoutOf}
 use Rattle.frame.specs.declared.version.Version.{Version}
 use Rattle.header.specs.Access.{layoutIn, countIn}
 use Rattle.header.specs.declared.Header.{Header}
-use Rattle.header.specs.declared.HeaderType.{HeaderType}
-use Rattle.header.specs.declared.HeaderType.the-variants.{Type0, Type1, Type2, Type3, Type4, Type5, Type6, Type0LegacyServer, Type0LegacyGpu}
-use Rattle.encode.specs.Fit.{fieldsFit}
+use Rattle.header_bytes.specs.Fit.{fieldsFit}
+use Rattle.header_bytes.proofs.Writing.{few-statuses}
 use Rattle.encode.specs.Encode.{versionFits, readable, layoutFits, encodable}
 
 -- a version that fits is within its bits
@@ -86,17 +85,6 @@ module _ (rules : List ℕ) (h : Header) where
   unfolding encodable
   can-fit e = both chosen fit (both (readable word) (chosen && fit) (both (versionFits (h .version)) (readable word && (chosen && fit)) e .1) .1) .1
 
--- a header whose fields fit has at most 127 status words
-pub few-statuses : (t : HeaderType) (rev ext : ℕ) → fieldsFit t rev ext ≡ true → countIn t ≤ 127
-few-statuses Type0 rev ext e = omega arith
-few-statuses Type1 rev ext e = omega arith
-few-statuses (Type2 t a r) rev ext e = omega arith
-few-statuses (Type3 t a r s c) rev ext e = omega arith
-few-statuses (Type4 t a r w m) rev ext e = omega arith
-few-statuses (Type5 t a r s c d) rev ext e = omega arith
-few-statuses (Type6 t a r d k n c) rev ext e = leb-true n 127 e
-few-statuses (Type0LegacyServer t a r d k s c) rev ext e = omega arith
-few-statuses (Type0LegacyGpu t a r s c) rev ext e = omega arith
-
+-- it has at most 127 status words
 pub can-count : (rules : List ℕ) (h : Header) → encodable rules h ≡ true → countIn (h .«header_type») ≤ 127
 can-count rules h e = few-statuses (h .«header_type») (h .version .revision) (h .size .«extended_record_size») (can-fit rules h e)

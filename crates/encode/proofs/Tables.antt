@@ -23,7 +23,7 @@ use Rattle.header.specs.Access.{layoutIn, countIn, headerSize}
 use Rattle.header.specs.declared.Header.{Header}
 use Rattle.header.specs.declared.HeaderType.{HeaderType}
 use Rattle.header.specs.declared.HeaderType.the-variants.{Type0, Type1, Type2, Type3, Type4, Type5, Type6, Type0LegacyServer, Type0LegacyGpu}
-use Rattle.encode.specs.Values.{valuesFor, valuesOf, headerBytes}
+use Rattle.header_bytes.specs.Values.{valuesFor, valuesOf, headerBytes}
 
 -- a run has no gap
 full-cells : (at w k n lo end : ℕ) → lo ≡ at + w * k → end ≡ at + w * (k + n) → fullFrom lo (cellsFrom at w k n) end ≡ true

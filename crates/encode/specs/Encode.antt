@@ -13,8 +13,8 @@ use Rattle.frame.specs.declared.Layout.the-variants.{Zero, One, Two, Three, Fou
 use Rattle.header.specs.Access.{layoutIn, headerSize}
 use Rattle.header.specs.declared.Header.{Header}
 use Rattle.header.specs.declared.HeaderType.{HeaderType}
-use Rattle.encode.specs.Values.{headerBytes}
-use Rattle.encode.specs.Fit.{fieldsFit}
+use Rattle.header_bytes.specs.Values.{headerBytes}
+use Rattle.header_bytes.specs.Fit.{fieldsFit}
 use Rattle.encode.specs.declared.Answer.{Answer}
 use Rattle.encode.specs.declared.Answer.the-variants.{Done, BadRules, BadField, OutputShort}
 use Rattle.encode.specs.declared.Encoded.{Encoded}

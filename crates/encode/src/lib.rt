@@ -1,11 +1,8 @@
 // The header encoder, which the Rust does not have: the inverse of decode.
 ghost use mathlib.Core.Path.{_≡_};
-ghost use Rattle.encode.specs.Fit.{fieldsFit};
+ghost use Rattle.header_bytes.specs.Fit.{fieldsFit};
 ghost use Rattle.encode.specs.Encode.{versionFits, layoutNumber, encodable, answered, encodedOf};
 ghost use Rattle.header.specs.Access.{layoutIn};
-
-mod put;
-
 use frame::Layout;
 use frame::version::END_MARK;
 use frame::version::ENDED;
@@ -13,7 +10,7 @@ use frame::version::Version;
 use header::Header;
 use header::HeaderType;
 use header::fields::server_die;
-use put::put_header;
+use header_bytes::put_header;
 
 // A status that shares its word with complete is below this.
 const STATUS_END: u32 = 2147483648;

@@ -100,8 +100,8 @@ pub fn in_bytes(units: usize, flags: u32) -> usize
     units * 4
 }
 
-// The bytes that the record declares.
-pub fn declared_of(s: &[u8], flags: u32) -> usize
+// The bytes that the record declares, by its size fields and their unit.
+fn declared_under(s: &[u8], flags: u32) -> usize
     requires { ⌜ sizesEnd flags ≤ length (now s) ⌝ }
     ensures { λ r. ⌜ (r ≡ declaredOf (now (s .entry)) flags) × (r ≤ 524280) ⌝ }
 {
@@ -110,6 +110,17 @@ pub fn declared_of(s: &[u8], flags: u32) -> usize
         (size.record_size as usize) + (size.extended_record_size as usize),
         flags,
     )
+}
+
+// The bytes that the record declares. The next record's position waits for them: where no rule applies, they do not wait for the flags.
+pub fn declared_of(s: &[u8], flags: u32) -> usize
+    requires { ⌜ sizesEnd flags ≤ length (now s) ⌝ }
+    ensures { λ r. ⌜ (r ≡ declaredOf (now (s .entry)) flags) × (r ≤ 524280) ⌝ }
+{
+    if flags == 0 {
+        return declared_under(s, 0);
+    }
+    declared_under(s, flags)
 }
 
 // The count of status words of a type 6 header, or 0 where its bytes are lacking.

@@ -26,8 +26,8 @@ use Rattle.header.specs.Access.{layoutIn, countIn, headerSize, recordBytes}
 use Rattle.header.specs.declared.Header.{Header}
 use Rattle.header.specs.declared.HeaderType.{HeaderType}
 use Rattle.header.specs.declared.Answer.the-variants.{Done}
-use Rattle.encode.specs.Values.{valuesFor, valuesOf, headerBytes}
-use Rattle.encode.specs.Fit.{fieldsFit}
+use Rattle.header_bytes.specs.Values.{valuesFor, valuesOf, headerBytes}
+use Rattle.header_bytes.specs.Fit.{fieldsFit}
 use Rattle.encode.specs.Encode.{encodable, encodedOf}
 use Rattle.encode.specs.declared.Encoded.{Encoded}
 use Rattle.encode.proofs.Fitting.{in-bits, can-version, can-read, can-choose, can-fit, can-count}

@@ -20,8 +20,8 @@ use Rattle.header.specs.Access.{layoutIn, countIn, headerSize}
 use Rattle.header.specs.declared.Header.{Header}
 use Rattle.header.specs.declared.Decoded.{Decoded}
 use Rattle.header.specs.declared.Answer.the-variants as decoded
-use Rattle.encode.specs.Values.{valuesFor, valuesOf, headerBytes}
-use Rattle.encode.specs.Fit.{fieldsFit}
+use Rattle.header_bytes.specs.Values.{valuesFor, valuesOf, headerBytes}
+use Rattle.header_bytes.specs.Fit.{fieldsFit}
 use Rattle.encode.specs.Encode.{versionFits, layoutNumber, encodable, answered, encodedOf}
 use Rattle.encode.specs.declared.Answer.the-variants.{Done}
 use Rattle.encode.proofs.Fitting.{as-fit}

@@ -23,8 +23,8 @@ use Rattle.header.specs.Access.{layoutIn, countIn}
 use Rattle.header.specs.declared.Header.{Header}
 use Rattle.header.specs.declared.HeaderType.{HeaderType}
 use Rattle.header.specs.declared.HeaderType.the-variants.{Type0, Type1, Type2, Type3, Type4, Type5, Type6, Type0LegacyServer, Type0LegacyGpu}
-use Rattle.encode.specs.Fit.{statusFits, fieldsFit}
-use Rattle.encode.specs.Values.{valuesFor}
+use Rattle.header_bytes.specs.Fit.{statusFits, fieldsFit}
+use Rattle.header_bytes.specs.Values.{valuesFor}
 use Rattle.header_laws.specs.Typed.{U16, U32, TypedFields}
 use Rattle.header_laws.proofs.Bits.{status-low, status-top, status-lt, half-low, half-top, half-lt}
 use Rattle.header_laws.proofs.Layouts.{isLegacy, legacy-layout}

@@ -21,8 +21,8 @@ use Rattle.frame.specs.declared.Layout.the-variants.{Zero, One, Two, Three, Fou
 use Rattle.frame.proofs.Sizes.{count-there}
 use Rattle.header.specs.Layouts.{tableOf, status, lowCount, serverDie, padded}
 use Rattle.header.proofs.Statuses.{length-words}
-use Rattle.encode.specs.Fit.{fieldsFit}
-use Rattle.encode.specs.Values.{valuesFor}
+use Rattle.header_bytes.specs.Fit.{fieldsFit}
+use Rattle.header_bytes.specs.Values.{valuesFor}
 use Rattle.encode.proofs.Tables.{tables-full}
 use Rattle.header_laws.specs.Typed.{Bytes}
 use Rattle.header_laws.specs.Rounds.{cleanHalf, unreadZero}

@@ -1,8 +1,1 @@
-pub mod Orders
-pub mod Heads
-pub mod Finds
-pub mod Tries
-pub mod Runs
-pub mod Turn
-pub mod Bound
 pub mod Shows

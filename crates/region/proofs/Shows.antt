@@ -14,17 +14,17 @@ use borrow.Author.Tests.{lt-ltb, le-ltb}
 use Rattle.rules.specs.Rules.{validOf}
 use Rattle.frame.specs.Frame.{isBox, headOf}
 use Rattle.frame.specs.declared.Head.{Head}
-use Rattle.region.specs.Trace.{Span, numbers, Visit, none, hit, deepest, top, regionTries, allTries}
-use Rattle.region.specs.Run.{Walk, state, step, run}
+use Rattle.tries.specs.Trace.{Span, numbers, Visit, none, hit, deepest, top, regionTries, allTries}
+use Rattle.tries.specs.Run.{Walk, state, step, run}
 use Rattle.region.specs.Listing.{numberOf, answerOf, Shown, tried, triedRow, shown, capacity, flat, laid, noneShort, refusal, mostBytes, worked, listed}
 use Rattle.region.specs.declared.Answer.the-variants.{TooLong, BadRules}
 use Rattle.region.specs.declared.Listing.{Listing}
-use Rattle.region.specs.declared.Cut.the-variants.{Going, Full, Spent}
-use Rattle.region.specs.declared.Found.the-variants.{Nothing, NoRoom, Row}
-use Rattle.region.proofs.Orders.{le-or-lt}
-use Rattle.region.proofs.Finds.{finds-nothing, finds-no-room, finds-row}
-use Rattle.region.proofs.Runs.{spent-going, full-going, step-spent, step-made, run-none, run-cons, run-cut}
-use Rattle.region.proofs.Bound.{all-bound, bytes-are-units}
+use Rattle.tries.specs.declared.Cut.the-variants.{Going, Full, Spent}
+use Rattle.tries.specs.declared.Found.the-variants.{Nothing, NoRoom, Row}
+use Rattle.tries.proofs.Orders.{le-or-lt}
+use Rattle.tries.proofs.Finds.{finds-nothing, finds-no-room, finds-row}
+use Rattle.tries.proofs.Runs.{spent-going, full-going, step-spent, step-made, run-none, run-cons, run-cut}
+use Rattle.tries.proofs.Bound.{all-bound, bytes-are-units}
 
 -- ---- the definition's cases, as equations
 

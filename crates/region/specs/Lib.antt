@@ -1,3 +1,1 @@
-pub mod Trace
-pub mod Run
 pub mod Listing

@@ -8,9 +8,9 @@ use Rattle.rules.specs.Rules.{validOf}
 use Rattle.frame.specs.declared.Head.{Head}
 use Rattle.frame.specs.declared.Head.the-variants.{Ended, BadHeader as HeadBad, BadType as HeadBadType, Record}
 use Rattle.frame.specs.Frame.{headOf}
-use Rattle.region.specs.Trace.{Span, numbers, Visit, none, hit, allTries}
-use Rattle.region.specs.declared.Cut.{Cut}
-use Rattle.region.specs.declared.Cut.the-variants.{Going, Full, Spent}
+use Rattle.tries.specs.Trace.{Span, numbers, Visit, none, hit, allTries}
+use Rattle.tries.specs.declared.Cut.{Cut}
+use Rattle.tries.specs.declared.Cut.the-variants.{Going, Full, Spent}
 use Rattle.region.specs.declared.Answer.{Answer}
 use Rattle.region.specs.declared.Answer.the-variants.{Done, TooLong, BadRules, BadHeader, BadType, Empty, SpansFull, TriesSpent}
 use Rattle.region.specs.declared.Listing.{Listing}

@@ -12,10 +12,10 @@ use Rattle.rules.proofs.Laws.{flags-lack}
 use Rattle.frame.specs.Version.{ended, wordOf, headerType}
 use Rattle.frame.specs.Frame.{declaredOf, badType, lacking, sizeOf, headWith, headOf}
 use Rattle.frame.specs.declared.Head.the-variants.{Ended, BadHeader, BadType, Record}
-use Rattle.region.specs.Trace.{allTries}
+use Rattle.tries.specs.Trace.{allTries}
 use Rattle.region.specs.Listing.{capacity, worked, listed}
 use Rattle.region.specs.declared.Listing.{Listing}
-use Rattle.region.proofs.Bound.{Units, all-bound, bytes-are-units}
+use Rattle.tries.proofs.Bound.{Units, all-bound, bytes-are-units}
 use Rattle.region_laws.specs.Positions.{visited}
 use Rattle.region_laws.proofs.Shown.{tries-le, listed-cases}
 use Rattle.region_laws.proofs.Positions.{tries-visited}

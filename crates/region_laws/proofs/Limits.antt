@@ -6,10 +6,10 @@ use mathlib.Core.Logic.{⊎-elim}
 use Prim.Native.Nat.{ℕ, _*_, _≤_, _<_, min}
 use native.Mathlib.Omega.{arith}
 use lib.ListN.{length, take, drop}
-use Rattle.region.specs.Trace.{Span, rowsIn, allTries}
+use Rattle.tries.specs.Trace.{Span, rowsIn, allTries}
 use Rattle.region.specs.Listing.{Shown, numberOf, shown, capacity, laid, worked, listed}
 use Rattle.region.specs.declared.Listing.{Listing}
-use Rattle.region.proofs.Orders.{le-or-lt}
+use Rattle.tries.proofs.Orders.{le-or-lt}
 use Rattle.region.proofs.Shows.{listed-worked}
 use Rattle.region_laws.specs.Positions.{visited}
 use Rattle.region_laws.specs.Whole.{Accepted, allRows, rowsBy, Roomy, showing, wholeListing, cutListing}

@@ -9,7 +9,7 @@ use lib.ListN.{length, take, drop}
 use Rattle.frame.specs.declared.Head.{Head}
 use Rattle.frame.specs.declared.Head.the-variants.{Ended, BadHeader, BadType, Record}
 use Rattle.frame.specs.Frame.{isBox, headOf}
-use Rattle.region.specs.Trace.{Span, span, Visit, none, hit, visitOf, deepest, rowsIn, Inside as Tries, within, onward, records, boxTries, regionTries, allTries}
+use Rattle.tries.specs.Trace.{Span, span, Visit, none, hit, visitOf, deepest, rowsIn, Inside as Tries, within, onward, records, boxTries, regionTries, allTries}
 use Rattle.region_laws.specs.Positions.{offsetOf, Inside, following, positions, inBox, visited}
 
 abbrev offsets : List Visit → List ℕ

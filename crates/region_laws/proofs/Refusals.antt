@@ -11,12 +11,12 @@ use Rattle.frame.specs.Version.{wordOf}
 use Rattle.frame.specs.Frame.{headWith, headOf}
 use Rattle.frame.specs.declared.Head.{Head}
 use Rattle.frame.specs.declared.Head.the-variants.{Ended}
-use Rattle.region.specs.Trace.{Span, Visit, none, hit, visitOf, deepest, top, Inside, onward, records, boxTries, regionTries, allTries}
+use Rattle.tries.specs.Trace.{Span, Visit, none, hit, visitOf, deepest, top, Inside, onward, records, boxTries, regionTries, allTries}
 use Rattle.region.specs.Listing.{numberOf, answerOf, shown, capacity, flat, laid, worked, listed}
-use Rattle.region.specs.declared.Cut.{Cut}
-use Rattle.region.specs.declared.Cut.the-variants.{Going, Full, Spent}
+use Rattle.tries.specs.declared.Cut.{Cut}
+use Rattle.tries.specs.declared.Cut.the-variants.{Going, Full, Spent}
 use Rattle.region.specs.declared.Listing.{Listing}
-use Rattle.region.proofs.Runs.{spent-going, full-going}
+use Rattle.tries.proofs.Runs.{spent-going, full-going}
 use Rattle.region_laws.proofs.Shown.{listed-cases}
 
 -- a listing of no row

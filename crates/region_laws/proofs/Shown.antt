@@ -8,10 +8,10 @@ use native.Mathlib.Omega.{arith}
 use lib.Dec.{ltb}
 use lib.ListN.{length, take, drop}
 use Rattle.rules.specs.Rules.{validOf}
-use Rattle.region.specs.Trace.{Span, Visit, none, hit, rowsIn}
+use Rattle.tries.specs.Trace.{Span, Visit, none, hit, rowsIn}
 use Rattle.region.specs.Listing.{Shown, tried, triedRow, shown, refusal, mostBytes, worked, listed}
 use Rattle.region.specs.declared.Answer.the-variants.{TooLong, BadRules}
-use Rattle.region.specs.declared.Cut.the-variants.{Going, Spent}
+use Rattle.tries.specs.declared.Cut.the-variants.{Going, Spent}
 use Rattle.region.specs.declared.Listing.{Listing}
 
 pub tries-le : (limit room : ℕ) (vs : List Visit) → shown limit room vs .tries ≤ length vs

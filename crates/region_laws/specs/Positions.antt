@@ -7,7 +7,7 @@ use lib.ListN.{length, take, drop}
 use Rattle.frame.specs.declared.Head.{Head}
 use Rattle.frame.specs.declared.Head.the-variants.{Ended, BadHeader, BadType, Record}
 use Rattle.frame.specs.Frame.{isBox, headOf}
-use Rattle.region.specs.Trace.{Visit, none, hit, deepest}
+use Rattle.tries.specs.Trace.{Visit, none, hit, deepest}
 
 -- where a try is made
 abbrev pub offsetOf : Visit → ℕ

@@ -6,9 +6,9 @@ use mathlib.Core.Bool.{true}
 use lib.ListN.{length, take}
 use Rattle.rules.specs.Rules.{validOf}
 use Rattle.frame.specs.Frame.{headOf}
-use Rattle.region.specs.Trace.{Span, rowsIn, allTries}
+use Rattle.tries.specs.Trace.{Span, rowsIn, allTries}
 use Rattle.region.specs.Listing.{Shown, capacity, laid, listingOf, mostBytes}
-use Rattle.region.specs.declared.Cut.the-variants.{Going, Spent}
+use Rattle.tries.specs.declared.Cut.the-variants.{Going, Spent}
 use Rattle.region.specs.declared.Listing.{Listing}
 use Rattle.region_laws.specs.Positions.{visited}
 

@@ -2,7 +2,8 @@
 // A table is rows of three numbers: mask, wanted, flags.
 ghost use mathlib.Core.Path.{_≡_};
 ghost use Prim.Native.Nat.{_+_, _<_};
-ghost use Rattle.rules.specs.Rules.{has, flagsOf, validOf};
+ghost use mathlib.Core.Bool.{cond};
+ghost use Rattle.rules.specs.Rules.{has, row, applies, flagsOf, validOf};
 
 pub mod intel;
 
@@ -50,17 +51,21 @@ pub fn valid(rules: &[u32]) -> bool
     true
 }
 
-// The flags of a version word: the union over the rows that apply.
+// The flags that a row gives a word: its own where it applies, else none.
+fn flags_given(word: u32, mask: u32, wanted: u32, flags: u32) -> u32
+    ensures { λ r. ⌜ r ≡ cond (applies word (row mask wanted flags)) flags 0 ⌝ }
+{
+    if word & mask == wanted { flags } else { 0 }
+}
+
+// The flags of a version word: the union over the rows that apply. Without a branch on them, several rows are looked at in one step.
 pub fn flags(rules: &[u32], word: u32) -> u32
     ensures { λ r. ⌜ r ≡ flagsOf (now (rules .entry)) word ⌝ }
 {
     let mut all: u32 = 0;
     let mut at: usize = 0;
     while at + 2 < rules.len() {
-        let masked = word & rules[at];
-        if masked == rules[at + 1] {
-            all = all | rules[at + 2];
-        }
+        all = all | flags_given(word, rules[at], rules[at + 1], rules[at + 2]);
         at = at + NUMBERS_IN_ROW;
     }
     all

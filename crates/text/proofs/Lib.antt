@@ -1,4 +1,2 @@
-pub mod Lays
-pub mod Numbers
 pub mod Rows
 pub mod Printed

@@ -10,7 +10,7 @@ use lib.ListN.{length, drop}
 use Rattle.rules.specs.Rules.{validOf, flagsSmall, rowsOf}
 use lib.Seq.{drop-append-add}
 use Rattle.frame.specs.Frame.{headOf}
-use Rattle.region.specs.Trace.{Span, numbers, allTries}
+use Rattle.tries.specs.Trace.{Span, numbers, allTries}
 use Rattle.region.specs.Listing.{Shown, shown, capacity, listingOf, flat, laid, worked}
 use Rattle.region.proofs.Shows.{listed-worked}
 use Rattle.text.specs.Dump.{heading, rowOf, rowLine, rowLines, lines, lastLine, mostInput, listing, textOfListing, table, dumpText}

@@ -9,7 +9,7 @@ use lib.Dec.{ltb}
 use lib.ListN.{length, take, length-take}
 use Rattle.region.specs.declared.Answer.the-variants.{TooLong}
 use Rattle.region.specs.declared.Listing.{Listing}
-use Rattle.region.specs.Trace.{rowsIn, allTries}
+use Rattle.tries.specs.Trace.{rowsIn, allTries}
 use Rattle.region.specs.Listing.{refusal, capacity, worked, listed}
 use Rattle.region_laws.proofs.Shown.{rows-shown, listed-cases}
 use Rattle.text.specs.Dump.{mostInput, listing}

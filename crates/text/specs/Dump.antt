@@ -8,11 +8,11 @@ use lib.ListN.{length, drop, getD, replicate}
 use Rattle.frame.specs.Version.{recordType}
 use Rattle.region.specs.declared.Answer.the-variants.{TooLong}
 use Rattle.region.specs.declared.Listing.{Listing}
-use Rattle.region.specs.Trace.{Span}
+use Rattle.tries.specs.Trace.{Span}
 use Rattle.region.specs.Listing.{numberOf, refusal, listed}
 use Rattle.names.specs.Ascii.{ascii}
 use Rattle.names.specs.Names.{textOf}
-use Rattle.text.specs.Number.{decimal, hex}
+use Rattle.number.specs.Number.{decimal, hex}
 
 -- ---- the lines
 

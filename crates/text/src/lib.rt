@@ -6,16 +6,14 @@ ghost use lib.ListN.{length, drop};
 ghost use Rattle.frame.specs.Version.{recordType};
 ghost use Rattle.region.specs.Listing.{numberOf};
 ghost use Rattle.names.specs.Names.{textOf};
-ghost use Rattle.text.specs.Number.{decimal};
-ghost use Rattle.text.specs.Laid.{Laid};
+ghost use Rattle.number.specs.Number.{decimal};
+ghost use Rattle.number.specs.Laid.{Laid};
 ghost use Rattle.text.specs.Dump.{column, version, rowOf, rowLine, rowLines, yesNo, lastLine, listing, dumpText};
 use frame::version::Version;
 use number::put_decimal;
 use number::put_hex;
 use region::Answer;
 use region::Listing;
-
-mod number;
 
 // The longest input, and the most tries.
 const MOST_INPUT: usize = 65535;

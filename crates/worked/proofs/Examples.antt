@@ -8,7 +8,7 @@ use Rattle.layout.specs.Fields.{readAll}
 use Rattle.frame.specs.Version.{wordOf}
 use Rattle.frame.specs.Frame.{declaredOf, sizeOf, headWith, headOf}
 use Rattle.header.specs.Header.{numbersOf, decodedFrom, decodedOf}
-use Rattle.region.specs.Trace.{visitOf, rowsIn, onward, records, boxTries, regionTries, allTries}
+use Rattle.tries.specs.Trace.{visitOf, rowsIn, onward, records, boxTries, regionTries, allTries}
 use Rattle.region.specs.Listing.{shown, flat, laid, noneShort, worked, listed}
 use Rattle.worked.specs.Examples.{examples, computed, stated}
 

@@ -12,7 +12,7 @@ use Rattle.frame.specs.declared.Layout.{Layout}
 use Rattle.header.specs.Access.{layoutIn}
 use Rattle.header.specs.declared.Header.{Header}
 use Rattle.encode.specs.Encode.{layoutNumber, versionFits, encodable}
-use Rattle.encode.specs.Fit.{fieldsFit}
+use Rattle.header_bytes.specs.Fit.{fieldsFit}
 use Rattle.encode.proofs.Fitting.{in-bits, not-in-bits, not-zero, not-marked, not-chosen, as-fit}
 use Rattle.encode.proofs.can_encode.Statement.{statement}
 use Rattle.encode.proofs.can_encode.Tie as tie

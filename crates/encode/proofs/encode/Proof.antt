@@ -10,7 +10,7 @@ use borrow.Author.Tests.{not-true, not-false, le-leb, lt-leb}
 use Rattle.rules.specs.Rules.{validOf}
 use Rattle.header.specs.Access.{countIn, headerSize}
 use Rattle.header.specs.declared.Header.{Header}
-use Rattle.encode.specs.Values.{headerBytes}
+use Rattle.header_bytes.specs.Values.{headerBytes}
 use Rattle.encode.specs.Encode.{encodable, answered, encodedOf}
 use Rattle.encode.specs.declared.Answer.the-variants.{Done, BadRules, BadField, OutputShort}
 use Rattle.encode.specs.declared.Encoded.{Encoded}

@@ -1,41 +1,16 @@
 -- `declared_of` gives the bytes that a record declares.
--- From the size fields and their unit. Assumes nothing.
-use mathlib.Core.Path.{_≡_, ap₂, ap, _∙_}
-use Prim.Native.Nat.{ℕ, _+_, _*_}
-use Rattle.frame.specs.Frame.{unit, declaredOf}
+-- By the test's outcome: without flags, those under no flags. Assumes nothing.
+use mathlib.Core.Path.{sym, ap, _∙_}
+use Rattle.frame.specs.Frame.{declaredOf}
 use borrow.Author.Needs.{needs}
 use Rattle.frame.proofs.declared_of.Statement.{statement}
 use Rattle.frame.proofs.declared_of.Tie as tie
-
-sizes-of-requires : tie.Need-sizes-of-requires
-sizes-of-requires c κs = search needs
-
-cast-in-bytes : tie.Need-cast-in-bytes
-cast-in-bytes c = search needs
-
-cast-in-bytes-2 : tie.Need-cast-in-bytes-2
-cast-in-bytes-2 c = search needs
-
-add-in-bytes : tie.Need-add-in-bytes
-add-in-bytes c = search needs
-
-in-bytes-requires : tie.Need-in-bytes-requires
-in-bytes-requires c κs = search needs
-
-returns : tie.Need-returns
-unfolding declaredOf
-returns c =
-    let args = c .before .before .before .before .before .args in
-    let size = c .before .before .before .sizes-of in
-    (c .in-bytes .ensures .0 ∙ ap₂ (λ (a b : ℕ). (a + b) * unit (args .flags)) (size .ensures .0) (size .ensures .1), c .in-bytes .ensures .1)
 
 pub declared-of-spec : {M : Type 1} → statement M
 declared-of-spec =
     tie.close
     (tie.spec
-    sizes-of-requires
-    cast-in-bytes
-    cast-in-bytes-2
-    add-in-bytes
-    in-bytes-requires
-    returns)
+    (λ c κs. rw (c .if1 .taken) at (c .before .before .pre))
+    (λ c. (c .declared-under .ensures .0 ∙ ap (declaredOf (c .before .before .before .args .s .now)) (sym (c .before .if1 .taken)), c .declared-under .ensures .1))
+    (λ c κs. search needs)
+    (λ c. search needs))

@@ -6,7 +6,7 @@ use denote.Ref.{now}
 use Rattle.frame.specs.Frame.{headOf}
 use Rattle.frame.specs.declared.Head.{Head}
 use Rattle.region.specs.Listing.{answerOf}
-use Rattle.region.specs.declared.Cut.the-variants.{Going}
+use Rattle.tries.specs.declared.Cut.the-variants.{Going}
 use Rattle.region.specs.declared.Answer.the-variants.{Done}
 use borrow.Author.Needs.{needs}
 use Rattle.region.proofs.answer_of.Statement.{statement}

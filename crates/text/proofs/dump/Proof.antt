@@ -5,9 +5,9 @@ use mathlib.Core.List.{List}
 use Prim.Native.Nat.{ℕ}
 use native.Mathlib.Omega.{arith}
 use Rattle.region.specs.declared.Listing.{Listing}
-use Rattle.text.specs.Laid.{Laid}
+use Rattle.number.specs.Laid.{Laid}
 use Rattle.text.specs.Dump.{heading, rowLines, lastLine, listing, textOfListing, table, dumpText}
-use Rattle.text.proofs.Lays.{then, at-start}
+use Rattle.number.proofs.Lays.{then, at-start}
 use borrow.Author.Needs.{needs}
 use Rattle.text.proofs.dump.Statement.{statement}
 use Rattle.text.proofs.dump.Tie as tie

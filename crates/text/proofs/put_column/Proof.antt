@@ -1,8 +1,8 @@
 -- `put_column` lays a number and a space; a number of 32 bits has at most ten digits.
 -- Assumes nothing.
 use native.Mathlib.Omega.{arith}
-use Rattle.text.proofs.Lays.{then}
-use Rattle.text.proofs.Numbers.{places-below}
+use Rattle.number.proofs.Lays.{then}
+use Rattle.number.proofs.Numbers.{places-below}
 use borrow.Author.Needs.{needs}
 use Rattle.text.proofs.put_column.Statement.{statement}
 use Rattle.text.proofs.put_column.Tie as tie

@@ -1,8 +1,8 @@
 -- `put_count` lays a text and a number; a number of 64 bits has at most twenty digits.
 -- Assumes nothing.
 use native.Mathlib.Omega.{arith}
-use Rattle.text.proofs.Lays.{then}
-use Rattle.text.proofs.Numbers.{places-below}
+use Rattle.number.proofs.Lays.{then}
+use Rattle.number.proofs.Numbers.{places-below}
 use borrow.Author.Needs.{needs}
 use Rattle.text.proofs.put_count.Statement.{statement}
 use Rattle.text.proofs.put_count.Tie as tie

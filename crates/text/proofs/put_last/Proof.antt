@@ -2,7 +2,7 @@
 -- Assumes nothing.
 use native.Mathlib.Omega.{arith}
 use Rattle.text.specs.Dump.{lastLine}
-use Rattle.text.proofs.Lays.{then}
+use Rattle.number.proofs.Lays.{then}
 use borrow.Author.Needs.{needs}
 use Rattle.text.proofs.put_last.Statement.{statement}
 use Rattle.text.proofs.put_last.Tie as tie

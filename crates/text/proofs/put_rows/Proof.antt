@@ -6,10 +6,10 @@ use Prim.Native.Nat.{ℕ, _+_, _-_, _*_, _≤_}
 use native.Mathlib.Numerals.{add-one}
 use native.Mathlib.Omega.{arith}
 use lib.ListN.{length, take, drop, length-drop}
-use Rattle.region.proofs.Turn.{tail-part}
-use Rattle.text.specs.Laid.{Laid}
+use Rattle.walk.proofs.Turn.{tail-part}
+use Rattle.number.specs.Laid.{Laid}
 use Rattle.text.specs.Dump.{rowOf, rowLine, rowLines}
-use Rattle.text.proofs.Lays.{then, keeps-length, nothing}
+use Rattle.number.proofs.Lays.{then, keeps-length, nothing}
 use borrow.Author.Needs.{needs}
 use Rattle.text.proofs.put_rows.Statement.{statement}
 use Rattle.text.proofs.put_rows.Tie as tie

@@ -1,7 +1,7 @@
 -- `put_text` lays its text through the part of the buffer that starts at the offset.
 -- Assumes nothing.
 use native.Mathlib.Omega.{arith}
-use Rattle.text.proofs.Lays.{through}
+use Rattle.number.proofs.Lays.{through}
 use borrow.Author.Needs.{needs}
 use Rattle.text.proofs.put_text.Statement.{statement}
 use Rattle.text.proofs.put_text.Tie as tie

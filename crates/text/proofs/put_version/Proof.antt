@@ -1,7 +1,7 @@
 -- `put_version` lays a version word and the name of its record type.
 -- Assumes nothing.
 use native.Mathlib.Omega.{arith}
-use Rattle.text.proofs.Lays.{then}
+use Rattle.number.proofs.Lays.{then}
 use borrow.Author.Needs.{needs}
 use Rattle.text.proofs.put_version.Statement.{statement}
 use Rattle.text.proofs.put_version.Tie as tie

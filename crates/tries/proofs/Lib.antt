@@ -1,0 +1,6 @@
+pub mod Orders
+pub mod Heads
+pub mod Finds
+pub mod Tries
+pub mod Runs
+pub mod Bound

@@ -1,0 +1,155 @@
+// The walk: the records of a region, and those inside its Boxes, as rows of a lent table.
+// The region walk and the Box walk call each other, one level deeper each time; a region's records are a loop.
+ghost use mathlib.Core.Path.{_≡_};
+ghost use Prim.Native.Nat.{_+_, _*_, _≤_, _<_, _^_};
+ghost use lib.ListN.{length};
+ghost use Rattle.tries.specs.Trace.{boxTries, regionTries};
+ghost use Rattle.tries.specs.Run.{state, run};
+use frame::version::ENDED;
+use frame::version::word_of;
+use tries::Cut;
+use tries::Found;
+use tries::State;
+
+// How deep Boxes are opened.
+pub const DEEPEST: u32 = 4;
+
+fn counts(rows: u32, tries: u64, whole: bool, cut: Cut) -> State
+    ensures { λ r. ⌜ r ≡ state rows tries whole cut ⌝ }
+{
+    State {
+        rows: rows,
+        tries: tries,
+        whole: whole,
+        cut: cut,
+    }
+}
+
+// The records of a region, one after the other, each with what stands inside it.
+pub fn region_walk(
+    bytes: &[u8],
+    rules: &[u32],
+    base: usize,
+    levels: u32,
+    parent: u32,
+    limit: u64,
+    room: u32,
+    mut rows: u32,
+    mut tries: u64,
+    mut whole: bool,
+    spans: &mut [u32],
+) -> State
+    requires { ⌜ (base + length (now bytes) < 2 ^ 32) × (levels ≤ 4) × (room * 8 ≤ length (now spans)) ⌝ }
+    ensures { λ r. ⌜ (now (spans .exit), r) ≡ run limit room (regionTries (now (rules .entry)) levels (now (bytes .entry)) base parent rows) (now (spans .entry), state rows tries whole Cut.Going) ⌝ }
+{
+    let mut last = ENDED;
+    let mut known: u32 = 0;
+    let mut at: usize = 0;
+    while at < bytes.len() {
+        if limit <= tries {
+            return counts(rows, tries, whole, Cut::Spent);
+        }
+        let word = word_of(&bytes[at..]);
+        if word != last {
+            last = word;
+            known = rules::flags(rules, word);
+        }
+        tries = tries + 1;
+        let tried = tries::try_at(
+            &bytes[at..],
+            word,
+            known,
+            DEEPEST - levels,
+            parent,
+            base + at,
+            room,
+            rows,
+            spans,
+        );
+        match tried {
+            Found::Nothing => {
+                return counts(rows, tries, whole, Cut::Going);
+            }
+            Found::NoRoom => {
+                return counts(rows, tries, whole, Cut::Full);
+            }
+            Found::Row {
+                held,
+                declared,
+                size,
+                boxed,
+            } => {
+                let row = rows;
+                rows = rows + 1;
+                whole = whole & (held == declared);
+                if boxed {
+                    let end = at + held;
+                    let inner = box_walk(
+                        &bytes[at..end],
+                        rules,
+                        base + at,
+                        size,
+                        levels,
+                        row,
+                        limit,
+                        room,
+                        tries,
+                        whole,
+                        spans,
+                    );
+                    let cut = inner.cut;
+                    match cut {
+                        Cut::Going => {}
+                        _ => {
+                            return counts(inner.rows, inner.tries, inner.whole, cut);
+                        }
+                    }
+                    rows = inner.rows;
+                    tries = inner.tries;
+                    whole = inner.whole;
+                }
+                at = at + declared;
+            }
+        }
+    }
+    counts(rows, tries, whole, Cut::Going)
+}
+
+// What stands inside a Box whose row is `row`. It is opened where a level is left and its header is held.
+fn box_walk(
+    held: &[u8],
+    rules: &[u32],
+    base: usize,
+    size: usize,
+    levels: u32,
+    row: u32,
+    limit: u64,
+    room: u32,
+    tries: u64,
+    whole: bool,
+    spans: &mut [u32],
+) -> State
+    requires { ⌜ (base + length (now held) < 2 ^ 32) × (levels ≤ 4) × (room * 8 ≤ length (now spans)) × (row < room) ⌝ }
+    ensures { λ r. ⌜ (now (spans .exit), r) ≡ run limit room (boxTries (now (rules .entry)) levels (now (held .entry)) base size row) (now (spans .entry), state (row + 1) tries whole Cut.Going) ⌝ }
+{
+    let rows = row + 1;
+    if levels == 0 {
+        return counts(rows, tries, whole, Cut::Going);
+    }
+    if held.len() <= size {
+        return counts(rows, tries, whole, Cut::Going);
+    }
+    region_walk(
+        &held[size..],
+        rules,
+        base + size,
+        levels - 1,
+        row,
+        limit,
+        room,
+        rows,
+        tries,
+        whole,
+        spans,
+    )
+}
