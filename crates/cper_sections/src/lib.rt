@@ -14,6 +14,9 @@ pub const MOST_BYTES: usize = 1048576;
 
 const NUMBERS_IN_ROW: usize = 3;
 
+// Where the high half of a number of eight bytes starts.
+const HIGH: u64 = 4294967296;
+
 // What listing the sections answers; with the rows written.
 pub enum Listed {
     Done(u32),
@@ -51,7 +54,7 @@ pub fn descriptor_at(index: usize) -> usize
     cper_header::RECORD_HEADER_SIZE + cper_descr::SECTION_DESCRIPTOR_SIZE * index
 }
 
-// The body that the descriptor with an index tells.
+// The body that the descriptor with an index tells. Its offset and its size are read as one number, which is one load.
 pub fn body_at(cper: &[u8], index: usize) -> Body
     requires { ⌜ index < 65536 ⌝ }
     ensures { λ r. ⌜ r ≡ bodyAt (now (cper .entry)) index ⌝ }
@@ -64,8 +67,9 @@ pub fn body_at(cper: &[u8], index: usize) -> Body
             size: 0,
         };
     }
-    let offset = le::u32_at(cper, at + cper_descr::SECTION_OFFSET_AT);
-    let size = le::u32_at(cper, at + cper_descr::SECTION_LENGTH_AT);
+    let told = le::u64_at(cper, at + cper_descr::SECTION_OFFSET_AT);
+    let offset = (told % HIGH) as u32;
+    let size = (told / HIGH) as u32;
     if cper.len() < (offset as usize) + (size as usize) {
         return Body {
             kept: false,

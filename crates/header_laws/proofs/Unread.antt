@@ -9,11 +9,11 @@ use lib.ListN.{length, take, set, replicate}
 use lib.Seq.{take-at}
 use borrow.Author.Tests.{lt-ltb, le-leb, eq-eqb}
 use Rattle.le.specs.Le.{le, put}
-use Rattle.le.proofs.Laws.{le-lt, length-put}
+use Rattle.le.proofs.Laws.{pow-positive, le-lt, length-put}
 use Rattle.layout.specs.Fields.{Field, readAll}
 use Rattle.layout.specs.Runs.{cells}
 use Rattle.layout.proofs.Full.{full-fits}
-use Rattle.layout.proofs.Puts.{pow-positive, fieldAt, read-put, put-bytes}
+use Rattle.layout.proofs.Puts.{fieldAt, read-put, put-bytes}
 use Rattle.frame.specs.Version.{revision}
 use Rattle.frame.specs.Frame.{lacking, sizeFor, countOf}
 use Rattle.frame.specs.declared.Layout.{Layout}

@@ -4,17 +4,13 @@ use mathlib.Core.Path.{_≡_, refl, ap₂, _∙_}
 use mathlib.Core.List.{List, [], _∷_}
 use mathlib.Core.Logic.{inl, inr}
 use Prim.Native.Nat.{ℕ, zero, suc, _+_, _/_, _%_, _^_, _≤_, _<_}
-use native.Mathlib.Nat.{mod-eq-of-lt, mod-lt, pow-le-pow-right}
+use native.Mathlib.Nat.{mod-eq-of-lt, mod-lt}
 use native.Mathlib.Omega.{arith}
 use lib.ListN.{length, getD, set}
 use Rattle.le.specs.Le.{put}
 use Rattle.le.proofs.Laws.{le-put, le-put-other}
 use Rattle.layout.specs.Fields.{Field, field, Fits, readAll}
 use Rattle.layout.proofs.Fields.{fits-end}
-
--- every field holds 0
-pub pow-positive : (w : ℕ) → 0 < 256 ^ w
-pow-positive w = pow-le-pow-right {n = 256} (omega arith) {i = 0} {j = w} (omega arith)
 
 -- ---- what is read
 

@@ -12,7 +12,8 @@ use lib.Pow.{pow-add}
 use lib.Seq.{getD-set-same, getD-set-other, set-getD}
 use Rattle.le.specs.Le.{le, put}
 
-pow-positive : (w : ℕ) → 0 < 256 ^ w
+-- every width holds 0
+pub pow-positive : (w : ℕ) → 0 < 256 ^ w
 pow-positive w = pow-le-pow-right {n = 256} (omega arith) {i = 0} {j = w} (omega arith)
 
 -- ---- one byte
@@ -115,6 +116,16 @@ module _ (bs : List ℕ) (bytes : (k : ℕ) → getD bs k 0 < 256) (at : ℕ) wh
   le-lt (suc w) =
       subst (λ (p : ℕ). le w bs at + getD bs (at + w) 0 * 256 ^ w < p) (sym (pow-suc 256 w ∙ mul-comm (256 ^ w) 256))
       (omega (arith, digits-lt {q = getD bs (at + w) 0} {m = 256} {r = le w bs at} {c = 256 ^ w} (bytes (at + w)) (le-lt w)))
+
+  -- the halves of a number that is read as one
+  pub low-half : (w v : ℕ) → le (w + v) bs at % 256 ^ w ≡ le w bs at
+  low-half w v =
+      ap (λ (n : ℕ). n % 256 ^ w) (le-halves w v bs at) ∙ add-mul-mod-self-right (le w bs at) (le v bs (at + w)) (256 ^ w) ∙ mod-eq-of-lt (le-lt w)
+
+  pub high-half : (w v : ℕ) → le (w + v) bs at / 256 ^ w ≡ le v bs (at + w)
+  high-half w v =
+      ap (λ (n : ℕ). n / 256 ^ w) (le-halves w v bs at) ∙ add-mul-div-right (le w bs at) (le v bs (at + w)) (pow-positive w)
+      ∙ ap (λ (q : ℕ). q + le v bs (at + w)) (div-eq-of-lt (le-lt w)) ∙ zero-add (le v bs (at + w))
 
   -- a number read, written where it stood, changes nothing
   pub put-le : (w : ℕ) → put w bs at (le w bs at) ≡ bs
