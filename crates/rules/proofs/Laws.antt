@@ -1,4 +1,4 @@
--- What others need of a word's flags: those of a valid table are at most 15; a flag that no row has, no word has; a row that does not apply changes nothing.
+-- What others need of a table and a word's flags: a valid table has at most 192 numbers, its flags are at most 15; a flag that no row has, no word has; a row that does not apply changes nothing.
 -- By induction over the rows, from the bits of a union. Assumes nothing.
 use mathlib.Core.Path.{_≡_, refl, sym, ap, _∙_}
 use mathlib.Core.List.{List, [], _∷_, _++_}
@@ -17,6 +17,20 @@ both : (a b : Bool) → (a && b) ≡ true → (a ≡ true) × (b ≡ true)
 both true b e = (refl, e)
 both false b e = absurd (let z : _≡_ {A = ℕ} 0 1 = cc in omega arith)
 
+-- ---- a valid table
+
+valid-parts : (rules : List ℕ) → validOf rules ≡ true → (length rules % 3 ≡ 0) × (length rules / 3 ≤ 64) × (flagsSmall (rowsOf rules) ≡ true)
+unfolding validOf
+valid-parts rules e =
+    let few = leb (length rules / 3) 64 in
+    let small = flagsSmall (rowsOf rules) in
+    let p = both (eqb (length rules % 3) 0) (few && small) e in
+    let q = both few small (p .1) in
+    (eqb-true (length rules % 3) 0 (p .0), leb-true (length rules / 3) 64 (q .0), q .1)
+
+pub valid-length : (rules : List ℕ) → validOf rules ≡ true → length rules ≤ 192
+valid-length rules e = let q = valid-parts rules e in omega arith
+
 -- ---- at most 15
 
 pick-lt : (t : Bool) (a b : ℕ) → a < 2 ^ 4 → b < 2 ^ 4 → cond t (bitOr a b) a < 2 ^ 4
@@ -32,12 +46,9 @@ rows-lt word all (r ∷ rs) h e =
     rows-lt word (withRow word all r) rs (pick-lt (applies word r) all (r .flags) h (omega arith)) (q .1)
 
 pub flags-le : (rules : List ℕ) (word : ℕ) → validOf rules ≡ true → flagsOf rules word ≤ 15
-unfolding flagsOf validOf
+unfolding flagsOf
 flags-le rules word e =
-    let whole = eqb (length rules % 3) 0 in
-    let few = leb (length rules / 3) 64 in
-    let small = flagsSmall (rowsOf rules) in
-    let h : withRows word 0 (rowsOf rules) < 2 ^ 4 = rows-lt word 0 (rowsOf rules) (omega arith) (both few small (both whole (few && small) e .1) .1) in
+    let h : withRows word 0 (rowsOf rules) < 2 ^ 4 = rows-lt word 0 (rowsOf rules) (omega arith) (valid-parts rules e .2) in
     omega arith
 
 -- ---- a flag that no row has

@@ -1,10 +1,12 @@
 // The walk: the records of a region, and those inside its Boxes, as rows of a lent table.
 // The region walk and the Box walk call each other, one level deeper each time; a region's records are a loop.
 ghost use mathlib.Core.Path.{_≡_};
-ghost use Prim.Native.Nat.{_+_, _*_, _≤_, _<_, _^_};
+ghost use Prim.Native.Nat.{_+_, _≤_, _<_, _^_};
 ghost use lib.ListN.{length};
+ghost use Rattle.rules.specs.Rules.{flagsOf};
 ghost use Rattle.tries.specs.Trace.{boxTries, regionTries};
 ghost use Rattle.tries.specs.Run.{state, run};
+ghost use Rattle.walk.specs.Bounds.{limitIn, roomIn, numbersIn, rulesIn, Sound};
 use frame::version::ENDED;
 use frame::version::word_of;
 use tries::Cut;
@@ -13,6 +15,30 @@ use tries::State;
 
 // How deep Boxes are opened.
 pub const DEEPEST: u32 = 4;
+
+// What stays the same in a whole walk is lent as two arrays, since a reference to an array is one word: `rules` starts with the rule table, and `bounds` has three numbers.
+
+// The numbers of the longest rule table.
+pub const MOST_NUMBERS: usize = 192;
+
+// The places of the three numbers: the limit of tries, the rows that there is room for, the numbers of the rule table.
+pub const LIMIT: usize = 0;
+
+pub const ROOM: usize = 1;
+
+pub const NUMBERS: usize = 2;
+
+pub const BOUNDS: usize = 3;
+
+// The flags of a word under the table.
+fn flags_in(rules: &[u32; MOST_NUMBERS], bounds: &[u64; BOUNDS], word: u32) -> u32
+    requires { ⌜ numbersIn (now bounds) ≤ 192 ⌝ }
+    ensures { λ r. ⌜ r ≡ flagsOf (rulesIn (now (rules .entry)) (now (bounds .entry))) word ⌝ }
+{
+    let numbers = bounds[NUMBERS] as usize;
+    let table: &[u32] = rules;
+    rules::flags(&table[..numbers], word)
+}
 
 fn counts(rows: u32, tries: u64, whole: bool, cut: Cut) -> State
     ensures { λ r. ⌜ r ≡ state rows tries whole cut ⌝ }
@@ -28,31 +54,30 @@ fn counts(rows: u32, tries: u64, whole: bool, cut: Cut) -> State
 // The records of a region, one after the other, each with what stands inside it.
 pub fn region_walk(
     bytes: &[u8],
-    rules: &[u32],
+    rules: &[u32; MOST_NUMBERS],
+    bounds: &[u64; BOUNDS],
     base: usize,
     levels: u32,
     parent: u32,
-    limit: u64,
-    room: u32,
     mut rows: u32,
     mut tries: u64,
     mut whole: bool,
     spans: &mut [u32],
 ) -> State
-    requires { ⌜ (base + length (now bytes) < 2 ^ 32) × (levels ≤ 4) × (room * 8 ≤ length (now spans)) ⌝ }
-    ensures { λ r. ⌜ (now (spans .exit), r) ≡ run limit room (regionTries (now (rules .entry)) levels (now (bytes .entry)) base parent rows) (now (spans .entry), state rows tries whole Cut.Going) ⌝ }
+    requires { ⌜ (base + length (now bytes) < 2 ^ 32) × (levels ≤ 4) × Sound (now bounds) (now spans) ⌝ }
+    ensures { λ r. ⌜ (now (spans .exit), r) ≡ run (limitIn (now (bounds .entry))) (roomIn (now (bounds .entry))) (regionTries (rulesIn (now (rules .entry)) (now (bounds .entry))) levels (now (bytes .entry)) base parent rows) (now (spans .entry), state rows tries whole Cut.Going) ⌝ }
 {
     let mut last = ENDED;
     let mut known: u32 = 0;
     let mut at: usize = 0;
     while at < bytes.len() {
-        if limit <= tries {
+        if bounds[LIMIT] <= tries {
             return counts(rows, tries, whole, Cut::Spent);
         }
         let word = word_of(&bytes[at..]);
         if word != last {
             last = word;
-            known = rules::flags(rules, word);
+            known = flags_in(rules, bounds, word);
         }
         tries = tries + 1;
         let tried = tries::try_at(
@@ -62,7 +87,7 @@ pub fn region_walk(
             DEEPEST - levels,
             parent,
             base + at,
-            room,
+            bounds[ROOM] as u32,
             rows,
             spans,
         );
@@ -87,12 +112,11 @@ pub fn region_walk(
                     let inner = box_walk(
                         &bytes[at..end],
                         rules,
+                        bounds,
                         base + at,
                         size,
                         levels,
                         row,
-                        limit,
-                        room,
                         tries,
                         whole,
                         spans,
@@ -118,19 +142,18 @@ pub fn region_walk(
 // What stands inside a Box whose row is `row`. It is opened where a level is left and its header is held.
 fn box_walk(
     held: &[u8],
-    rules: &[u32],
+    rules: &[u32; MOST_NUMBERS],
+    bounds: &[u64; BOUNDS],
     base: usize,
     size: usize,
     levels: u32,
     row: u32,
-    limit: u64,
-    room: u32,
     tries: u64,
     whole: bool,
     spans: &mut [u32],
 ) -> State
-    requires { ⌜ (base + length (now held) < 2 ^ 32) × (levels ≤ 4) × (room * 8 ≤ length (now spans)) × (row < room) ⌝ }
-    ensures { λ r. ⌜ (now (spans .exit), r) ≡ run limit room (boxTries (now (rules .entry)) levels (now (held .entry)) base size row) (now (spans .entry), state (row + 1) tries whole Cut.Going) ⌝ }
+    requires { ⌜ (base + length (now held) < 2 ^ 32) × (levels ≤ 4) × Sound (now bounds) (now spans) × (row < roomIn (now bounds)) ⌝ }
+    ensures { λ r. ⌜ (now (spans .exit), r) ≡ run (limitIn (now (bounds .entry))) (roomIn (now (bounds .entry))) (boxTries (rulesIn (now (rules .entry)) (now (bounds .entry))) levels (now (held .entry)) base size row) (now (spans .entry), state (row + 1) tries whole Cut.Going) ⌝ }
 {
     let rows = row + 1;
     if levels == 0 {
@@ -142,11 +165,10 @@ fn box_walk(
     region_walk(
         &held[size..],
         rules,
+        bounds,
         base + size,
         levels - 1,
         row,
-        limit,
-        room,
         rows,
         tries,
         whole,
