@@ -7,9 +7,6 @@ use crate::table::{heading, row};
 
 const LENGTHS: [usize; 6] = [1 << 10, 4 << 10, 16 << 10, 64 << 10, 256 << 10, MIB];
 
-/// Of a descriptor and a body of 32 bytes.
-const BYTES_A_SECTION: usize = 104;
-
 fn line(name: &str, time: impl FnMut(usize) -> f64) {
     let times: Vec<f64> = LENGTHS.iter().copied().map(time).collect();
     let each = times.iter().zip(LENGTHS).map(|(time, length)| format!("{:.1}", time / (length >> 10) as f64));
@@ -40,6 +37,6 @@ pub fn report(rules: &[u32]) {
     let mut out = normalising::output();
     line("normalising, 1 section", |length| normalise_time(1, length, &mut out));
     line("normalising, a section for each 104 bytes", |length| {
-        normalise_time((length - 128) / BYTES_A_SECTION, length, &mut out)
+        normalise_time(inputs::sections_in(length), length, &mut out)
     });
 }

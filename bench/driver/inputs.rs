@@ -142,6 +142,11 @@ pub fn legacy_boxes(len: usize) -> Vec<u8> {
     })
 }
 
+/// How many sections with bodies of 32 bytes a CPER of a length has.
+pub fn sections_in(len: usize) -> usize {
+    (len - 128) / (72 + 32)
+}
+
 /// The bytes in each body of a CPER with so many sections, whose bodies fill up to a length.
 pub fn body_size(sections: usize, len: usize) -> usize {
     (len - 128 - 72 * sections) / sections

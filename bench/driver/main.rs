@@ -1,5 +1,7 @@
 //! Times the library beside plain C and, with `--cfg oracle`, beside the published Rust, on the same inputs. What they give is
-//! compared before they are timed. Prints the tables of docs/SPEED.md.
+//! compared before they are timed. Prints the tables of docs/SPEED.md. With the name of a folder it writes inputs there for
+//! bench/count instead.
+mod counting;
 mod growth;
 mod headers;
 mod inputs;
@@ -15,6 +17,9 @@ mod targets;
 fn main() {
     let rules = library::intel_rules();
     let tables = [Vec::new(), rules.clone(), inputs::padded(&rules, 64)];
+    if let Some(folder) = std::env::args().nth(1) {
+        return counting::write_inputs(folder.as_ref(), &tables);
+    }
     let listings = listing::report(&tables);
     let normal_forms = normalising::report();
     headers::report_decoding(&tables);
