@@ -1,14 +1,12 @@
 // The nested listing of a region: what is refused, the walk from the top, and its answer.
 ghost use mathlib.Core.Path.{_≡_};
-ghost use Prim.Native.Nat.{min, _/_, _≤_};
+ghost use Prim.Native.Nat.{min, _/_};
 ghost use lib.Dec.{eqb};
-ghost use lib.ListN.{length, take};
 ghost use Rattle.frame.specs.Frame.{headOf};
 ghost use Rattle.region.specs.Listing.{numberOf, answerFirst, answerOf, refusal, listed};
 use tries::Cut;
 use tries::NUMBERS_IN_ROW;
 use walk::DEEPEST;
-use walk::MOST_NUMBERS;
 
 // The longest region.
 const MOST_BYTES: usize = 1048576;
@@ -93,20 +91,6 @@ fn room_of(numbers: usize) -> u32
     tries::least(numbers / NUMBERS_IN_ROW, (TOP - 1) as usize) as u32
 }
 
-// An array that starts with the rule table.
-fn table_of(rules: &[u32]) -> [u32; MOST_NUMBERS]
-    requires { ⌜ length (now rules) ≤ 192 ⌝ }
-    ensures { λ r. ⌜ take (length (now (rules .entry))) r ≡ now (rules .entry) ⌝ }
-{
-    let mut table = [0u32; MOST_NUMBERS];
-    let mut at: usize = 0;
-    while at < rules.len() {
-        table[at] = rules[at];
-        at = at + 1;
-    }
-    table
-}
-
 // The nested listing of a region.
 pub fn list(region: &[u8], rules: &[u32], limit: u64, spans: &mut [u32]) -> Listing
     ensures { λ r. ⌜ (now (spans .exit), r) ≡ listed (now (rules .entry)) (now (region .entry)) limit (now (spans .entry)) ⌝ }
@@ -117,10 +101,25 @@ pub fn list(region: &[u8], rules: &[u32], limit: u64, spans: &mut [u32]) -> List
     if !rules::valid(rules) {
         return refused(Answer::BadRules);
     }
-    let table = table_of(rules);
-    // as walk::LIMIT, ROOM and NUMBERS place them
-    let bounds = [limit, room_of(spans.len()) as u64, rules.len() as u64];
-    let end = walk::region_walk(region, &table, &bounds, 0, DEEPEST, TOP, 0, 0, true, spans);
+    let columns = columns::columns_of(rules);
+    // as walk::LIMIT, ROOM and ROWS place them
+    let bounds = [
+        limit,
+        room_of(spans.len()) as u64,
+        (rules.len() / rules::NUMBERS_IN_ROW) as u64,
+    ];
+    let end = walk::region_walk(
+        region,
+        &columns,
+        &bounds,
+        0,
+        DEEPEST,
+        TOP,
+        0,
+        0,
+        true,
+        spans,
+    );
     let cut = end.cut;
     let answer = answer_of(region, rules, cut, end.rows);
     Listing {

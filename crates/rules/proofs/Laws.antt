@@ -1,4 +1,4 @@
--- What others need of a table and a word's flags: a valid table has at most 192 numbers, its flags are at most 15; a flag that no row has, no word has; a row that does not apply changes nothing.
+-- What others need of a table and a word's flags: a valid table has whole rows and at most 192 numbers, its flags are at most 15; a flag that no row has, no word has; a row that does not apply changes nothing, and one that is looked at gives its flags or none.
 -- By induction over the rows, from the bits of a union. Assumes nothing.
 use mathlib.Core.Path.{_≡_, refl, sym, ap, _∙_}
 use mathlib.Core.List.{List, [], _∷_, _++_}
@@ -6,7 +6,7 @@ use mathlib.Core.Bool.{Bool, true, false, cond, not, _&&_}
 use Prim.Native.Nat.{ℕ, _+_, _*_, _/_, _%_, _^_, _≤_, _<_, max}
 use native.Mathlib.Nat.{zero-div}
 use native.Mathlib.Omega.{arith}
-use lib.Bits.{bitOr, or-lt, or-shr, or-step, or-mod}
+use lib.Bits.{bitOr, or-zero-r, or-lt, or-shr, or-step, or-mod}
 use lib.Dec.{eqb, leb}
 use lib.ListN.{length}
 use borrow.Author.Tests.{eqb-true, eqb-false, ne-eqb, leb-true}
@@ -28,8 +28,8 @@ valid-parts rules e =
     let q = both few small (p .1) in
     (eqb-true (length rules % 3) 0 (p .0), leb-true (length rules / 3) 64 (q .0), q .1)
 
-pub valid-length : (rules : List ℕ) → validOf rules ≡ true → length rules ≤ 192
-valid-length rules e = let q = valid-parts rules e in omega arith
+pub valid-rows : (rules : List ℕ) → validOf rules ≡ true → (length rules % 3 ≡ 0) × (length rules ≤ 192)
+valid-rows rules e = let q = valid-parts rules e in (q .0, omega arith)
 
 -- ---- at most 15
 
@@ -86,3 +86,19 @@ pub row-passed : (word all : ℕ) (rs ts : List Row) (r : Row) → applies word 
 unfolding withRows
 row-passed word all [] ts r e = ap (λ (t : Bool). withRows word (cond t (bitOr all (r .flags)) all) ts) e
 row-passed word all (q ∷ rs) ts r e = row-passed word (withRow word all q) rs ts r e
+
+-- ---- a row that is looked at
+
+-- a union with a row's flags, or with none
+united : (t : Bool) (all flags : ℕ) → bitOr all (cond t flags 0) ≡ cond t (bitOr all flags) all
+united true all flags = refl
+united false all flags = or-zero-r all
+
+pub row-looked : (word all given : ℕ) (r : Row) (rs : List Row) → given ≡ cond (applies word r) (r .flags) 0
+    → withRows word (bitOr all given) rs ≡ withRows word all (r ∷ rs)
+unfolding withRows
+row-looked word all given r rs e = ap (λ (f : ℕ). withRows word f rs) (ap (bitOr all) e ∙ united (applies word r) all (r .flags))
+
+pub rows-done : (word all : ℕ) → withRows word all [] ≡ all
+unfolding withRows
+rows-done word all = refl

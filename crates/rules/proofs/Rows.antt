@@ -19,7 +19,8 @@ rows-none (_ ∷ _ ∷ _ ∷ rest) h = absurd (omega arith)
 pub rows-end : (t : List ℕ) (at : ℕ) → length t ≤ at + 2 → rowsOf (drop at t) ≡ []
 rows-end t at h = rows-none (drop at t) (simp length-drop (omega arith))
 
-drop-three : (t : List ℕ) (at : ℕ) → at + 2 < length t
+-- three numbers, and those after them
+pub drop-three : (t : List ℕ) (at : ℕ) → at + 2 < length t
     → drop at t ≡ getD t at 0 ∷ getD t (at + 1) 0 ∷ getD t (at + 2) 0 ∷ drop (at + 3) t
 drop-three t at h =
     let second : suc at ≡ at + 1 = omega arith in

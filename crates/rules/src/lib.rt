@@ -19,7 +19,7 @@ pub const SIZES_IN_BYTES: u32 = 8;
 // All of them together.
 const EVERY_FLAG: u32 = 15;
 
-const NUMBERS_IN_ROW: usize = 3;
+pub const NUMBERS_IN_ROW: usize = 3;
 
 const MOST_ROWS: usize = 64;
 
@@ -52,7 +52,7 @@ pub fn valid(rules: &[u32]) -> bool
 }
 
 // The flags that a row gives a word: its own where it applies, else none.
-fn flags_given(word: u32, mask: u32, wanted: u32, flags: u32) -> u32
+pub fn flags_given(word: u32, mask: u32, wanted: u32, flags: u32) -> u32
     ensures { λ r. ⌜ r ≡ cond (applies word (row mask wanted flags)) flags 0 ⌝ }
 {
     if word & mask == wanted { flags } else { 0 }

@@ -3,10 +3,10 @@
 ghost use mathlib.Core.Path.{_≡_};
 ghost use Prim.Native.Nat.{_+_, _≤_, _<_, _^_};
 ghost use lib.ListN.{length};
-ghost use Rattle.rules.specs.Rules.{flagsOf};
 ghost use Rattle.tries.specs.Trace.{boxTries, regionTries};
 ghost use Rattle.tries.specs.Run.{state, run};
-ghost use Rattle.walk.specs.Bounds.{limitIn, roomIn, numbersIn, rulesIn, Sound};
+ghost use Rattle.walk.specs.Bounds.{limitIn, roomIn, tableIn, Sound};
+use columns::NUMBERS;
 use frame::version::ENDED;
 use frame::version::word_of;
 use tries::Cut;
@@ -16,29 +16,16 @@ use tries::State;
 // How deep Boxes are opened.
 pub const DEEPEST: u32 = 4;
 
-// What stays the same in a whole walk is lent as two arrays, since a reference to an array is one word: `rules` starts with the rule table, and `bounds` has three numbers.
+// What stays the same in a whole walk is lent as two arrays, since a reference to an array is one word: `rules` has the columns of the rule table, and `bounds` three numbers.
 
-// The numbers of the longest rule table.
-pub const MOST_NUMBERS: usize = 192;
-
-// The places of the three numbers: the limit of tries, the rows that there is room for, the numbers of the rule table.
+// The places of the three numbers: the limit of tries, the rows that there is room for, the rows of the rule table.
 pub const LIMIT: usize = 0;
 
 pub const ROOM: usize = 1;
 
-pub const NUMBERS: usize = 2;
+pub const ROWS: usize = 2;
 
 pub const BOUNDS: usize = 3;
-
-// The flags of a word under the table.
-fn flags_in(rules: &[u32; MOST_NUMBERS], bounds: &[u64; BOUNDS], word: u32) -> u32
-    requires { ⌜ numbersIn (now bounds) ≤ 192 ⌝ }
-    ensures { λ r. ⌜ r ≡ flagsOf (rulesIn (now (rules .entry)) (now (bounds .entry))) word ⌝ }
-{
-    let numbers = bounds[NUMBERS] as usize;
-    let table: &[u32] = rules;
-    rules::flags(&table[..numbers], word)
-}
 
 fn counts(rows: u32, tries: u64, whole: bool, cut: Cut) -> State
     ensures { λ r. ⌜ r ≡ state rows tries whole cut ⌝ }
@@ -54,7 +41,7 @@ fn counts(rows: u32, tries: u64, whole: bool, cut: Cut) -> State
 // The records of a region, one after the other, each with what stands inside it.
 pub fn region_walk(
     bytes: &[u8],
-    rules: &[u32; MOST_NUMBERS],
+    rules: &[u32; NUMBERS],
     bounds: &[u64; BOUNDS],
     base: usize,
     levels: u32,
@@ -65,7 +52,7 @@ pub fn region_walk(
     spans: &mut [u32],
 ) -> State
     requires { ⌜ (base + length (now bytes) < 2 ^ 32) × (levels ≤ 4) × Sound (now bounds) (now spans) ⌝ }
-    ensures { λ r. ⌜ (now (spans .exit), r) ≡ run (limitIn (now (bounds .entry))) (roomIn (now (bounds .entry))) (regionTries (rulesIn (now (rules .entry)) (now (bounds .entry))) levels (now (bytes .entry)) base parent rows) (now (spans .entry), state rows tries whole Cut.Going) ⌝ }
+    ensures { λ r. ⌜ (now (spans .exit), r) ≡ run (limitIn (now (bounds .entry))) (roomIn (now (bounds .entry))) (regionTries (tableIn (now (rules .entry)) (now (bounds .entry))) levels (now (bytes .entry)) base parent rows) (now (spans .entry), state rows tries whole Cut.Going) ⌝ }
 {
     let mut last = ENDED;
     let mut known: u32 = 0;
@@ -77,7 +64,7 @@ pub fn region_walk(
         let word = word_of(&bytes[at..]);
         if word != last {
             last = word;
-            known = flags_in(rules, bounds, word);
+            known = columns::flags(rules, bounds[ROWS] as usize, word);
         }
         tries = tries + 1;
         let tried = tries::try_at(
@@ -142,7 +129,7 @@ pub fn region_walk(
 // What stands inside a Box whose row is `row`. It is opened where a level is left and its header is held.
 fn box_walk(
     held: &[u8],
-    rules: &[u32; MOST_NUMBERS],
+    rules: &[u32; NUMBERS],
     bounds: &[u64; BOUNDS],
     base: usize,
     size: usize,
@@ -153,7 +140,7 @@ fn box_walk(
     spans: &mut [u32],
 ) -> State
     requires { ⌜ (base + length (now held) < 2 ^ 32) × (levels ≤ 4) × Sound (now bounds) (now spans) × (row < roomIn (now bounds)) ⌝ }
-    ensures { λ r. ⌜ (now (spans .exit), r) ≡ run (limitIn (now (bounds .entry))) (roomIn (now (bounds .entry))) (boxTries (rulesIn (now (rules .entry)) (now (bounds .entry))) levels (now (held .entry)) base size row) (now (spans .entry), state (row + 1) tries whole Cut.Going) ⌝ }
+    ensures { λ r. ⌜ (now (spans .exit), r) ≡ run (limitIn (now (bounds .entry))) (roomIn (now (bounds .entry))) (boxTries (tableIn (now (rules .entry)) (now (bounds .entry))) levels (now (held .entry)) base size row) (now (spans .entry), state (row + 1) tries whole Cut.Going) ⌝ }
 {
     let rows = row + 1;
     if levels == 0 {

@@ -6,7 +6,7 @@ use native.Mathlib.Omega.{arith}
 use borrow.Author.Tests.{not-true, not-false}
 use denote.Ref.{now}
 use Rattle.rules.specs.Rules.{validOf}
-use Rattle.rules.proofs.Laws.{valid-length}
+use Rattle.rules.proofs.Laws.{valid-rows}
 use Rattle.region.proofs.Shows.{listed-long, listed-rules, listed-run}
 use borrow.Author.Needs.{needs}
 use Rattle.region.proofs.list.Statement.{statement}
@@ -27,12 +27,12 @@ returns-2 c =
 good : (c : tie.Else2) → validOf (now (c .before .before .before .before .before .before .args .rules)) ≡ true
 good c = sym (c .before .valid .ensures) ∙ not-false (c .before .valid .result) (c .if2 .left)
 
-table-of-requires : tie.Need-table-of-requires
-table-of-requires c κs = valid-length (now (c .before .before .before .before .before .before .args .rules)) (good c)
+columns-of-requires : tie.Need-columns-of-requires
+columns-of-requires c κs = valid-rows (now (c .before .before .before .before .before .before .args .rules)) (good c)
 
 region-walk-requires : tie.Need-region-walk-requires
 region-walk-requires c κs =
-    let v = valid-length (now (c .before .before .before .before .before .before .before .before .before .before .before .args .rules)) (good (c .before .before .before .before .before)) in
+    let v = valid-rows (now (c .before .before .before .before .before .before .before .before .before .before .before .args .rules)) (good (c .before .before .before .before .before)) in
     search (needs, v)
 
 returns-3 : tie.Need-returns-3
@@ -41,7 +41,7 @@ returns-3 c =
     let a = g .before .before .before .before .before .before .args in
     let y = c .before .before .before .before .before .region-walk in
     rw (c .before .is-done .ensures, c .before .before .answer-of .ensures)
-    (listed-run (now (a .rules)) (now (a .region)) (a .limit) (now (a .spans)) (omega arith) (good g) (y .last .1 .1 .1 .1 .1 .1 .1 .1 .1 .0, y .result) (rw (c .before .before .before .before .before .before .before .before .before .room-of .ensures, c .before .before .before .before .before .before .before .before .before .before .table-of .ensures) at (y .ensures)))
+    (listed-run (now (a .rules)) (now (a .region)) (a .limit) (now (a .spans)) (omega arith) (good g) (y .last .1 .1 .1 .1 .1 .1 .1 .1 .1 .0, y .result) (rw (c .before .before .before .before .before .before .before .before .before .room-of .ensures, c .before .before .before .before .before .before .before .before .before .before .columns-of .ensures) at (y .ensures)))
 
 pub list-spec : {M : Type 1} → statement M
 list-spec =
@@ -52,7 +52,7 @@ list-spec =
     (λ c κs. search needs)
     (λ c κs. search needs)
     returns-2
-    table-of-requires
+    columns-of-requires
     (λ c κs. search needs)
     (λ c. search needs)
     region-walk-requires

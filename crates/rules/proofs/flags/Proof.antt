@@ -1,37 +1,29 @@
 -- `flags` gives the union over the rows that apply.
 -- The loop's invariant: the flags so far, with those of the rows still to come, are the whole union. Assumes nothing.
-use mathlib.Core.Path.{_≡_, refl, sym, ap, _∙_}
-use mathlib.Core.Bool.{Bool, true, false, cond}
+use mathlib.Core.Path.{_≡_, sym, ap, _∙_}
+use mathlib.Core.Bool.{cond}
 use mathlib.Core.List.{List}
 use Prim.Native.Nat.{ℕ, _+_, _-_, _≤_, _<_}
 use native.Mathlib.Omega.{arith}
-use lib.Bits.{bitOr, or-zero-r}
+use lib.Bits.{bitOr}
 use lib.ListN.{length, getD, drop}
 use Rattle.rules.specs.Rules.{row, applies, rowsOf, withRows, flagsOf}
 use Rattle.rules.proofs.Rows.{rows-step, rows-end}
+use Rattle.rules.proofs.Laws.{row-looked, rows-done}
 use borrow.Author.Needs.{needs}
 use Rattle.rules.proofs.flags.Statement.{statement}
 use Rattle.rules.proofs.flags.Tie as tie
-
--- a union with a row's flags, or with none
-united : (t : Bool) (all flags : ℕ) → bitOr all (cond t flags 0) ≡ cond t (bitOr all flags) all
-united true all flags = refl
-united false all flags = or-zero-r all
 
 -- a turn of the loop
 turn : (t : List ℕ) (word all given at : ℕ) → at + 2 < length t
     → given ≡ cond (applies word (row (getD t at 0) (getD t (at + 1) 0) (getD t (at + 2) 0))) (getD t (at + 2) 0) 0
     → withRows word (bitOr all given) (rowsOf (drop (at + 3) t)) ≡ withRows word all (rowsOf (drop at t))
-unfolding withRows
 turn t word all given at h e =
-    let r = row (getD t at 0) (getD t (at + 1) 0) (getD t (at + 2) 0) in
-    ap (λ (f : ℕ). withRows word f (rowsOf (drop (at + 3) t))) (ap (bitOr all) e ∙ united (applies word r) all (r .flags))
-    ∙ ap (withRows word all) (sym (rows-step t at h))
+    row-looked word all given _ (rowsOf (drop (at + 3) t)) e ∙ ap (withRows word all) (sym (rows-step t at h))
 
 -- the loop's end
 last : (t : List ℕ) (word all at : ℕ) → length t ≤ at + 2 → withRows word all (rowsOf (drop at t)) ≡ all
-unfolding withRows
-last t word all at h = ap (withRows word all) (rows-end t at h)
+last t word all at h = ap (withRows word all) (rows-end t at h) ∙ rows-done word all
 
 abbrev Inv-loop : tie.InvT-loop
 Inv-loop rules word all₀ at₀ all at = (at ≤ length rules + 2) × (withRows word all (rowsOf (drop at rules)) ≡ flagsOf rules word)

@@ -15,7 +15,7 @@ use Rattle.tries.specs.Run.{Walk, state}
 use Rattle.tries.specs.declared.Cut.the-variants.{Going}
 use Rattle.tries.proofs.Tries.{box-deep, box-short, box-open}
 use Rattle.tries.proofs.Runs.{run-empty}
-use Rattle.walk.specs.Bounds.{limitIn, roomIn, rulesIn}
+use Rattle.walk.specs.Bounds.{limitIn, roomIn, tableIn}
 use Rattle.walk.proofs.Turn.{tail-part, held-fits, Place, rest, rest-start, rest-same, rest-end, rest-spent, Tried, tried-at, remembered, stop-turn, full-turn, row-free, row-bounds, row-held, plain-turn, box-turn, box-cut, tag-cut}
 use borrow.Fn.Kinds.{In}
 use borrow.Fn.PlainCycle.{Measures, is, falls, and}
@@ -28,13 +28,13 @@ use Rattle.walk.proofs.+box_walk+region_walk.Lts-region_walk as region-
 use Rattle.frame.proofs.version.word_of.Reads as word-of-reads
 use Rattle.walk.proofs.counts.Reads as counts-reads
 use Rattle.tries.proofs.try_at.Reads as try-at-reads
-use Rattle.walk.proofs.flags_in.Reads as flags-in-reads
+use Rattle.columns.proofs.flags.Reads as flags-reads
 use Rattle.walk.proofs.+box_walk+region_walk.{statement}
 use Rattle.walk.proofs.+box_walk+region_walk.Tie.{close}
 
 abbrev placed : List ℕ → List ℕ → List ℕ → ℕ → ℕ → ℕ → Place
 placed bytes rules bounds base levels parent =
-    record { rules = rulesIn rules bounds; bytes = bytes; base = base; levels = levels; parent = parent; limit = limitIn bounds; room = roomIn bounds }
+    record { rules = tableIn rules bounds; bytes = bytes; base = base; levels = levels; parent = parent; limit = limitIn bounds; room = roomIn bounds }
 
 -- the invariant: what is left of the region, run from here, ends as the whole does; and the flags of the last word are known
 record Going-on (p : Place) (t₀ : List ℕ) (start : Walk) (t : List ℕ) (rows tries : ℕ) (whole : Bool) (last known at : ℕ) : Type 0 where
@@ -85,7 +85,7 @@ box-walk-region-walk-requires t c κs =
 box-walk-returns-3 : (t : ℕ) → box-walk-lts.Need-returns-3 (BoxCalls t) (box-walk-at t) box-walk.Post
 box-walk-returns-3 t c =
     let a = c .before .before .before .before .before .before .before .before .before .args in
-    rw (box-open (rulesIn (now (a .rules)) (now (a .bounds))) (a .levels) (now (a .held)) (a .base) (a .size) (a .row) (omega arith) (omega arith))
+    rw (box-open (tableIn (now (a .rules)) (now (a .bounds))) (a .levels) (now (a .held)) (a .base) (a .size) (a .row) (omega arith) (omega arith))
     (rw (tail-part (now (a .held)) (a .size)) at (c .before .before .region-walk .ensures))
 
 abbrev region-walk-Inv-loop : region-walk-lts.InvT-loop
@@ -102,8 +102,8 @@ RegionCalls t = (
   counts-reads.Learnt,
   word-of-reads.Asked,
   word-of-reads.Learnt,
-  flags-in-reads.Asked,
-  flags-in-reads.Learnt,
+  flags-reads.Asked,
+  flags-reads.Learnt,
   try-at-reads.Asked,
   try-at-reads.Learnt,
   box-walk-below t,
@@ -131,7 +131,7 @@ module _ (t : ℕ) (c : region-walk-lts.After-try-at (RegionCalls t) (region-wal
   known : (J .if2 .last ≡ W .word-of .result) × ((W .word-of .result ≡ ended → ⊥) → J .if2 .known ≡ flagsOf (place t S .rules) (W .word-of .result))
   known =
       remembered (place t S .rules) (W .word-of .result) (L .loop .last) (L .loop .known) (J .if2 .last) (J .if2 .known) (L .loop .inv .flags)
-      (⊎-elim (λ q. inl (q .2, q .3 ∙ q .1 .ensures)) (λ q. inr (q .0 .left, q .1, q .2)) (J .if2 .came))
+      (⊎-elim (λ q. inl (q .3, q .4 ∙ q .2 .ensures)) (λ q. inr (q .0 .left, q .1, q .2)) (J .if2 .came))
 
   kept : (J .if2 .last ≡ ended → ⊥) → J .if2 .known ≡ flagsOf (place t S .rules) (J .if2 .last)
   kept n = known .1 (λ e. n (known .0 ∙ e)) ∙ ap (flagsOf (place t S .rules)) (sym (known .0))
@@ -202,7 +202,7 @@ region-walk-box-walk-requires t c κs =
     let l = L t y .loop in
     let w = c .before .before .before .before .before .before .before .before .before .before .before .before .before .before .before .before .before .loop-test .taken in
     let h = row-free (turn t y) (l .whole) (c .before .before .before .before .tried .given .1) in
-    (omega arith, (held-fits (now (s .args .bytes)) (s .args .base) (l .at) (l .at + c .before .before .before .before .tried .given .0 .0 - l .at) (s .pre .1 .0) (omega arith), s .pre .1 .1, record { limit = o .limit; room = o .room; rows = omega (arith, long t y, o .rows); numbers = o .numbers }, h))
+    (omega arith, (held-fits (now (s .args .bytes)) (s .args .base) (l .at) (l .at + c .before .before .before .before .tried .given .0 .0 - l .at) (s .pre .1 .0) (omega arith), s .pre .1 .1, record { limit = o .limit; room = o .room; rows = omega (arith, long t y, o .rows); rules = o .rules }, h))
 
 region-walk-same-length-4 : (t : ℕ) → region-walk-lts.Need-same-length-4 (RegionCalls t) (region-walk-at t) region-walk.Post region-walk-Inv-loop region-walk-μ-loop
 region-walk-same-length-4 t c =
@@ -293,6 +293,7 @@ pub +box-walk+region-walk-spec : {M : Type 1} → statement M
     (λ c. search needs)
     (λ c. search needs)
     (λ c κs. search needs)
+    (λ c. search needs)
     (λ c κs. search needs)
     (λ c. search needs)
     (λ c. search needs)
