@@ -35,10 +35,6 @@ written-through out field last at n h e =
     (append-nil (field ++ drop n (drop at out)) ∙ ap (λ (l : List ℕ). field ++ l) (drop-drop n at out))
     ∙ sym (append-assoc (take at out) field (drop (at + n) out))
 
--- the part of a slice that starts at an offset
-pub tail-part : (bs : List ℕ) (at : ℕ) → take (length bs - at) (drop at bs) ≡ drop at bs
-tail-part bs at = take-all (length bs - at) (drop at bs) (omega (arith, length-drop at bs))
-
 -- a field of a known length
 pub field-written : (out field next : List ℕ) (at n : ℕ) → length field ≡ n → next ≡ over out at (length field) field → (next ≡ over out at n field) × (length field ≡ n)
 field-written out field next at n l e = (e ∙ ap (λ (k : ℕ). over out at k field) l, l)

@@ -8,7 +8,7 @@ use lib.Dec.{eqb, leb}
 use lib.ListN.{length}
 use borrow.Author.Tests.{lt-ltb, le-ltb, leb-true}
 use Rattle.le.specs.Le.{le}
-use Rattle.layout.proofs.Bools.{both}
+use Rattle.basics.proofs.Bools.{both}
 use Rattle.cper_header.specs.Record.{headerSize, signature, signatureEnd, startsWith, isCper}
 use Rattle.cper_sections.specs.Answers.{mostBytes, checked}
 

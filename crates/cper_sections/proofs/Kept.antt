@@ -9,7 +9,7 @@ use native.Mathlib.Omega.{arith}
 use lib.Dec.{leb, ltb}
 use lib.ListN.{length}
 use borrow.Author.Tests.{leb-true}
-use Rattle.layout.proofs.Bools.{both}
+use Rattle.basics.proofs.Bools.{both}
 use Rattle.cper_header.specs.Record.{isCper, countOf}
 use Rattle.cper_sections.specs.Answers.{tooLong, notCper, mostBytes}
 use Rattle.cper_descr.specs.Descriptor.{descriptorSize}

@@ -7,7 +7,7 @@ use Prim.Native.Nat.{ℕ, _≤_, _<_}
 use native.Mathlib.Omega.{arith}
 use lib.Dec.{eqb, leb, ltb}
 use borrow.Author.Tests.{ltb-true, eq-eqb, ne-eqb}
-use Rattle.layout.proofs.Bools.{both}
+use Rattle.basics.proofs.Bools.{both}
 use Rattle.rules.specs.Rules.{flagsOf}
 use Rattle.frame.specs.Version.{InBits, ended, wordFrom}
 use Rattle.frame.specs.Frame.{layoutOf}

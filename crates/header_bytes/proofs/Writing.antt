@@ -6,7 +6,7 @@ use Prim.Native.Nat.{ℕ, _≤_, _<_}
 use native.Mathlib.Omega.{arith}
 use lib.Dec.{eqb}
 use borrow.Author.Tests.{ltb-true, leb-true}
-use Rattle.layout.proofs.Bools.{both}
+use Rattle.basics.proofs.Bools.{both}
 use Rattle.header.specs.Layouts.{serverDie}
 use Rattle.header.specs.Access.{countIn}
 use Rattle.header.specs.declared.Header.{Header}

@@ -9,7 +9,7 @@ use lib.Dec.{eqb}
 use lib.ListN.{length, take, drop, length-append}
 use borrow.Author.Tests.{eqb-false, not-true}
 use Rattle.layout.specs.Fields.{Field, readAll}
-use Rattle.layout.proofs.Bools.{both}
+use Rattle.basics.proofs.Bools.{both}
 use Rattle.layout.proofs.Full.{read-full, length-bytes}
 use Rattle.rules.specs.Rules.{validOf, flagsOf}
 use Rattle.frame.specs.Version.{ended, wordOf, revision, versionOf, InBits, wordFrom}

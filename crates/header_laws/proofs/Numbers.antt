@@ -10,7 +10,7 @@ use lib.ListN.{length, getD, take}
 use borrow.Author.Tests.{ltb-true, leb-true, eqb-true}
 use Rattle.le.specs.Le.{le}
 use Rattle.layout.specs.Fields.{Field, Below, readAll}
-use Rattle.layout.proofs.Bools.{both}
+use Rattle.basics.proofs.Bools.{both}
 use Rattle.layout.proofs.Runs.{below-cells}
 use Rattle.frame.specs.Version.{versionOf, revision}
 use Rattle.frame.specs.Frame.{layoutOf, countOf}

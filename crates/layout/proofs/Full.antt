@@ -13,7 +13,7 @@ use Rattle.le.specs.Le.{put}
 use Rattle.le.proofs.Laws.{length-put}
 use Rattle.layout.specs.Fields.{Field, Fits, fullFrom, full, Below, readAll, writeAll, digits, bytesOf}
 use Rattle.layout.proofs.Digits.{length-digits, put-digits}
-use Rattle.layout.proofs.Bools.{both}
+use Rattle.basics.proofs.Bools.{both}
 use Rattle.layout.proofs.Fields.{fits-end, length-write, read-write, length-read, write-back}
 
 fullFrom-true : (lo : ℕ) (f : Field) (fs : List Field) (n : ℕ) → fullFrom lo (f ∷ fs) n ≡ true → (lo ≡ f .at) × (fullFrom (f .at + f .width) fs n ≡ true)

@@ -1,4 +1,3 @@
-pub mod Bools
 pub mod Digits
 pub mod Fields
 pub mod Full

@@ -10,12 +10,8 @@ use lib.Bits.{bitOr, or-zero-r, or-lt, or-shr, or-step, or-mod}
 use lib.Dec.{eqb, leb}
 use lib.ListN.{length}
 use borrow.Author.Tests.{eqb-true, eqb-false, ne-eqb, leb-true}
+use Rattle.basics.proofs.Bools.{both}
 use Rattle.rules.specs.Rules.{has, Row, applies, withRow, rowsOf, withRows, flagsOf, flagsSmall, validOf, noneHas}
-
--- both of a conjunction
-both : (a b : Bool) → (a && b) ≡ true → (a ≡ true) × (b ≡ true)
-both true b e = (refl, e)
-both false b e = absurd (let z : _≡_ {A = ℕ} 0 1 = cc in omega arith)
 
 -- ---- a valid table
 

@@ -13,6 +13,7 @@ use lib.Dec.{eqb, ltb}
 use lib.ListN.{length, take, drop, length-take, length-drop}
 use lib.Seq.{drop-drop, take-all, take-length}
 use borrow.Author.Tests.{ltb-true, ltb-false}
+use Rattle.basics.proofs.Parts.{tail-part}
 use Rattle.rules.specs.Rules.{flagsOf}
 use Rattle.frame.specs.Version.{ended, wordOf}
 use Rattle.frame.specs.Frame.{headWith, headOf}
@@ -30,10 +31,6 @@ use Rattle.tries.proofs.Tries.{records-end, records-first, records-stop, record
 use Rattle.tries.proofs.Runs.{spent-going, full-going, step-spent, step-made, run-none, run-cons, run-append, run-cut, run-rows}
 
 -- ---- parts of a list
-
--- the part from k to the end
-pub tail-part : (xs : List ℕ) (k : ℕ) → take (length xs - k) (drop k xs) ≡ drop k xs
-tail-part xs k = take-all (length xs - k) (drop k xs) (simp length-drop (omega arith))
 
 -- the first d, where there are so many
 held-part : (xs : List ℕ) (d k : ℕ) → k ≡ min d (length xs) → take k xs ≡ take d xs

@@ -7,9 +7,10 @@ use native.Mathlib.Omega.{arith}
 use lib.ListN.{length, take, drop, length-drop}
 use lib.Seq.{length-take-le}
 use borrow.Rule.Slice.PartMut.{putMid}
+use Rattle.basics.proofs.Parts.{tail-part}
 use Rattle.cper_fields.specs.Fields.{over}
 use Rattle.cper_descr.specs.Descriptor.{descriptorSize, descriptorOf, moved, normalDescriptor, descriptorBytes}
-use Rattle.cper_fields.proofs.Copies.{written-through, tail-part}
+use Rattle.cper_fields.proofs.Copies.{written-through}
 use Rattle.cper_sections.specs.Sections.{Section, descriptorAt, bodyOf}
 use Rattle.cper.specs.Normal.{descriptorFor}
 use Rattle.cper_sections.specs.Steps.{section}

@@ -6,7 +6,7 @@ use Prim.Native.Nat.{ℕ, _+_, _-_, _*_, _≤_}
 use native.Mathlib.Numerals.{add-one}
 use native.Mathlib.Omega.{arith}
 use lib.ListN.{length, take, drop, length-drop}
-use Rattle.walk.proofs.Turn.{tail-part}
+use Rattle.basics.proofs.Parts.{tail-part}
 use Rattle.number.specs.Laid.{Laid}
 use Rattle.text.specs.Dump.{rowOf, rowLine, rowLines}
 use Rattle.number.proofs.Lays.{then, keeps-length, nothing}

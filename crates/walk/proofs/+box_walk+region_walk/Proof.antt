@@ -9,6 +9,7 @@ use native.Mathlib.Omega.{arith}
 use lib.ListN.{length, length-drop}
 use borrow.Author.Needs.{needs}
 use denote.Ref.{now}
+use Rattle.basics.proofs.Parts.{tail-part}
 use Rattle.rules.specs.Rules.{flagsOf}
 use Rattle.frame.specs.Version.{ended}
 use Rattle.tries.specs.Run.{Walk, state}
@@ -16,7 +17,7 @@ use Rattle.tries.specs.declared.Cut.the-variants.{Going}
 use Rattle.tries.proofs.Tries.{box-deep, box-short, box-open}
 use Rattle.tries.proofs.Runs.{run-empty}
 use Rattle.walk.specs.Bounds.{limitIn, roomIn, tableIn}
-use Rattle.walk.proofs.Turn.{tail-part, held-fits, Place, rest, rest-start, rest-same, rest-end, rest-spent, Tried, tried-at, remembered, stop-turn, full-turn, row-free, row-bounds, row-held, plain-turn, box-turn, box-cut, tag-cut}
+use Rattle.walk.proofs.Turn.{held-fits, Place, rest, rest-start, rest-same, rest-end, rest-spent, Tried, tried-at, remembered, stop-turn, full-turn, row-free, row-bounds, row-held, plain-turn, box-turn, box-cut, tag-cut}
 use borrow.Fn.Kinds.{In}
 use borrow.Fn.PlainCycle.{Measures, is, falls, and}
 use Rattle.walk.proofs.box_walk.Reads as box-walk
