@@ -1,5 +1,7 @@
 //! Times of several candidates at the same work, taken in turn, round after round.
 
+use std::hint::black_box;
+
 const ROUNDS: usize = 15;
 
 /// A sample's least time, in nanoseconds.
@@ -68,14 +70,22 @@ fn calls_of(work: &mut dyn FnMut()) -> u32 {
     (AT_LEAST / one).ceil().clamp(1.0, 1e6) as u32
 }
 
-/// Each round starts with another candidate.
+/// Makes a call from so many frames further down.
+#[inline(never)]
+fn deeper(frames: usize, call: &mut dyn FnMut()) {
+    let frame = black_box([0u8; 64]);
+    if frames == 0 { call() } else { deeper(frames - 1, call) }
+    black_box(&frame);
+}
+
+/// Each round starts with another candidate, and further down the stack: where the stack lies changes a call's time.
 pub fn sample(candidates: &mut [Candidate]) -> Times {
     let calls: Vec<u32> = candidates.iter_mut().map(|(_, work)| calls_of(work)).collect();
     let mut rounds = vec![vec![0.0; ROUNDS]; candidates.len()];
     for round in 0..ROUNDS {
         for turn in 0..candidates.len() {
             let i = (round + turn) % candidates.len();
-            rounds[i][round] = timed(&mut candidates[i].1, calls[i]);
+            deeper(round, &mut || rounds[i][round] = timed(&mut candidates[i].1, calls[i]));
         }
     }
     Times { names: candidates.iter().map(|(name, _)| *name).collect(), rounds }
