@@ -90,8 +90,11 @@ module _ (p : Place) where
   abbrev pub rest : ℕ → List ℕ → ℕ → ℕ → Bool → Walk
   rest at t rows tries whole = runs (outer at rows) (t, state rows tries whole Going)
 
-  pub rest-start : (t : List ℕ) (rows tries : ℕ) (whole : Bool)
-      → runs (regionTries (p .rules) (p .levels) (p .bytes) (p .base) (p .parent) rows) (t, state rows tries whole Going) ≡ rest 0 t rows tries whole
+  -- the whole region
+  abbrev pub entire : List ℕ → ℕ → ℕ → Bool → Walk
+  entire t rows tries whole = runs (regionTries (p .rules) (p .levels) (p .bytes) (p .base) (p .parent) rows) (t, state rows tries whole Going)
+
+  pub rest-start : (t : List ℕ) (rows tries : ℕ) (whole : Bool) → entire t rows tries whole ≡ rest 0 t rows tries whole
   unfolding regionTries
   rest-start t rows tries whole = rw add-zero
 

@@ -17,7 +17,7 @@ use Rattle.tries.specs.declared.Cut.the-variants.{Going}
 use Rattle.tries.proofs.Tries.{box-deep, box-short, box-open}
 use Rattle.tries.proofs.Runs.{run-empty}
 use Rattle.walk.specs.Bounds.{limitIn, roomIn, tableIn}
-use Rattle.walk.proofs.Turn.{held-fits, Place, rest, rest-start, rest-same, rest-end, rest-spent, Tried, tried-at, remembered, stop-turn, full-turn, row-free, row-bounds, row-held, plain-turn, box-turn, box-cut, tag-cut}
+use Rattle.walk.proofs.Turn.{held-fits, Place, rest, entire, rest-start, rest-same, rest-end, rest-spent, Tried, tried-at, remembered, stop-turn, full-turn, row-free, row-bounds, row-held, plain-turn, box-turn, box-cut, tag-cut}
 use borrow.Fn.Kinds.{In}
 use borrow.Fn.PlainCycle.{Measures, is, falls, and}
 use Rattle.walk.proofs.box_walk.Reads as box-walk
@@ -91,7 +91,7 @@ box-walk-returns-3 t c =
 
 abbrev region-walk-Inv-loop : region-walk-lts.InvT-loop
 region-walk-Inv-loop bytes rules bounds base levels parent rows₀ tries₀ whole₀ spans₀ last₀ known₀ at₀ rows tries whole spans last known at =
-    Going-on (placed bytes rules bounds base levels parent) spans₀ (rest (placed bytes rules bounds base levels parent) 0 spans₀ rows₀ tries₀ whole₀) spans rows tries whole last known at
+    Going-on (placed bytes rules bounds base levels parent) spans₀ (entire (placed bytes rules bounds base levels parent) spans₀ rows₀ tries₀ whole₀) spans rows tries whole last known at
 
 abbrev region-walk-μ-loop : region-walk-lts.MeasureT-loop
 region-walk-μ-loop bytes rules bounds base levels parent rows₀ tries₀ whole₀ spans₀ last₀ known₀ at₀ rows tries whole spans last known at =
@@ -149,14 +149,14 @@ module _ (t : ℕ) (c : region-walk-lts.After-try-at (RegionCalls t) (region-wal
 
 region-walk-loop-holds : (t : ℕ) → region-walk-lts.Need-loop-holds (RegionCalls t) (region-walk-at t) region-walk.Post region-walk-Inv-loop region-walk-μ-loop
 region-walk-loop-holds t c =
-    record { flags = λ n. absurd (n refl); same = refl; ends = refl }
+    let s = c .before .before in
+    record { flags = λ n. absurd (n refl); same = refl; ends = rest-start (place t s) (now (s .args .spans)) (s .args .rows) (s .args .tries) (s .args .whole) }
 
 region-walk-returns : (t : ℕ) → region-walk-lts.Need-returns (RegionCalls t) (region-walk-at t) region-walk.Post region-walk-Inv-loop region-walk-μ-loop
 region-walk-returns t c =
     let s = c .before .before .before .before .before .before .before in
     let l = c .before .before .before .before .loop in
-    let z = rest-start (place t s) (now (s .args .spans)) (s .args .rows) (s .args .tries) (s .args .whole) in
-    rw (c .counts .ensures) (sym (z ∙ l .inv .ends ∙ rest-spent (place t s) (l .at) (l .spans) (l .rows) (l .tries) (l .whole) (omega arith) (omega arith)))
+    rw (c .counts .ensures) (sym (l .inv .ends ∙ rest-spent (place t s) (l .at) (l .spans) (l .rows) (l .tries) (l .whole) (omega arith) (omega arith)))
 
 region-walk-try-at-requires : (t : ℕ) → region-walk-lts.Need-try-at-requires (RegionCalls t) (region-walk-at t) region-walk.Post region-walk-Inv-loop region-walk-μ-loop
 region-walk-try-at-requires t c κs =
@@ -167,16 +167,14 @@ region-walk-returns-2 t c =
     let y = c .before .before .before .before .before in
     let s = S t y in
     let l = L t y .loop in
-    let z = rest-start (place t s) (now (s .args .spans)) (s .args .rows) (s .args .tries) (s .args .whole) in
-    rw (c .counts2 .ensures) (sym (z ∙ l .inv .ends ∙ stop-turn (turn t y) (l .whole) (c .before .enum-told .given .1)))
+    rw (c .counts2 .ensures) (sym (l .inv .ends ∙ stop-turn (turn t y) (l .whole) (c .before .enum-told .given .1)))
 
 region-walk-returns-3 : (t : ℕ) → region-walk-lts.Need-returns-3 (RegionCalls t) (region-walk-at t) region-walk.Post region-walk-Inv-loop region-walk-μ-loop
 region-walk-returns-3 t c =
     let y = c .before .before .before .before .before in
     let s = S t y in
     let l = L t y .loop in
-    let z = rest-start (place t s) (now (s .args .spans)) (s .args .rows) (s .args .tries) (s .args .whole) in
-    rw (c .counts3 .ensures) (sym (z ∙ l .inv .ends ∙ full-turn (turn t y) (l .whole) (c .before .enum-told2 .given .1)))
+    rw (c .counts3 .ensures) (sym (l .inv .ends ∙ full-turn (turn t y) (l .whole) (c .before .enum-told2 .given .1)))
 
 region-walk-add-rows : (t : ℕ) → region-walk-lts.Need-add-rows (RegionCalls t) (region-walk-at t) region-walk.Post region-walk-Inv-loop region-walk-μ-loop
 region-walk-add-rows t c =
@@ -215,9 +213,8 @@ region-walk-returns-4 t c =
     let y = c .before .before .before .before .before .before .before .before .before .before .before .before .before in
     let s = S t y in
     let l = L t y .loop in
-    let z = rest-start (place t s) (now (s .args .spans)) (s .args .rows) (s .args .tries) (s .args .whole) in
     let i = c .before .before .before .before .box-walk in
-    rw (c .counts4 .ensures) (sym (z ∙ l .inv .ends ∙ box-cut (turn t y) (l .whole) (c .before .before .before .before .before .before .before .before .before .tried .given .1) (c .before .before .before .before .before .before .before .if3 .taken) (i .ensures) (tag-cut (i .result .cut) (c .before .match2 .keys2))))
+    rw (c .counts4 .ensures) (sym (l .inv .ends ∙ box-cut (turn t y) (l .whole) (c .before .before .before .before .before .before .before .before .before .tried .given .1) (c .before .before .before .before .before .before .before .if3 .taken) (i .ensures) (tag-cut (i .result .cut) (c .before .match2 .keys2))))
 
 region-walk-add-at : (t : ℕ) → region-walk-lts.Need-add-at (RegionCalls t) (region-walk-at t) region-walk.Post region-walk-Inv-loop region-walk-μ-loop
 region-walk-add-at t c =
@@ -234,28 +231,26 @@ region-walk-loop-less t c =
 region-walk-loop-again : (t : ℕ) → region-walk-lts.Need-loop-again (RegionCalls t) (region-walk-at t) region-walk.Post region-walk-Inv-loop region-walk-μ-loop
 region-walk-loop-again t c =
     let y = c .before .before .before .before .before .before in
+    let s = S t y .args in
     let l = L t y .loop in
     let r = c .before .before .tried .given in
     let p = place t (S t y) in
-    ⊎-elim
-    (λ q. record {
-      flags = kept t y;
-      same = ap length (q .11) ∙ (q .3 .kept .1 .1 .1 .1 .1 .1 .1 .1 .1 .0 ∙ long t y);
-      ends = l .inv .ends ∙ (box-turn (turn t y) (l .whole) (r .1) (q .0 .taken) (q .3 .ensures) (q .7 .given .1) ∙ rest-same p (l .at + r .0 .1 .0) (q .11) (omega (arith, q .8)) (omega (arith, q .9)) (q .10));
-    })
-    (λ q. record {
-      flags = kept t y;
-      same = ap length (q .4) ∙ long t y;
-      ends = l .inv .ends ∙ (plain-turn (turn t y) (l .whole) (r .1) (q .0 .left) ∙ rest-same p (l .at + r .0 .1 .0) (q .4) (omega (arith, q .1)) (omega (arith, q .2)) (q .3));
-    })
-    (c .if3 .came)
+    let next = l .at + r .0 .1 .0 in
+    let same : length (c .if3 .spans) ≡ length (now (s .spans)) =
+    ⊎-elim (λ q. ap length (q .11) ∙ (q .3 .kept .1 .1 .1 .1 .1 .1 .1 .1 .1 .0 ∙ long t y)) (λ q. ap length (q .4) ∙ long t y) (c .if3 .came) in
+    let ends : entire p (now (s .spans)) (s .rows) (s .tries) (s .whole) ≡ rest p next (c .if3 .spans) (c .if3 .rows) (c .if3 .tries) (c .if3 .whole) =
+    l .inv .ends
+    ∙ ⊎-elim
+    (λ q. box-turn (turn t y) (l .whole) (r .1) (q .0 .taken) (q .3 .ensures) (q .7 .given .1) ∙ rest-same p next (q .11) (omega (arith, q .8)) (omega (arith, q .9)) (q .10))
+    (λ q. plain-turn (turn t y) (l .whole) (r .1) (q .0 .left) ∙ rest-same p next (q .4) (omega (arith, q .1)) (omega (arith, q .2)) (q .3))
+    (c .if3 .came) in
+    record { flags = kept t y; same = same; ends = ends }
 
 region-walk-returns-5 : (t : ℕ) → region-walk-lts.Need-returns-5 (RegionCalls t) (region-walk-at t) region-walk.Post region-walk-Inv-loop region-walk-μ-loop
 region-walk-returns-5 t c =
     let s = c .before .before .before .before .before in
     let l = c .before .before .loop in
-    let z = rest-start (place t s) (now (s .args .spans)) (s .args .rows) (s .args .tries) (s .args .whole) in
-    rw (c .counts5 .ensures) (sym (z ∙ l .inv .ends ∙ rest-end (place t s) (l .at) (l .spans) (l .rows) (l .tries) (l .whole) (omega arith)))
+    rw (c .counts5 .ensures) (sym (l .inv .ends ∙ rest-end (place t s) (l .at) (l .spans) (l .rows) (l .tries) (l .whole) (omega arith)))
 
 pub +box-walk+region-walk-spec : {M : Type 1} → statement M
 +box-walk+region-walk-spec =
