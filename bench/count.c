@@ -4,9 +4,9 @@
  *
  * bench/count counts its instructions. */
 #include <stdbool.h>
-#include "plain.h"
+#include <unistd.h>
 
-extern long read(int file, void *bytes, size_t length);
+#include "plain.h"
 
 static struct {
     uint32_t numbers;
@@ -33,8 +33,10 @@ int main(int count, char **words)
     size_t length = filled(bytes, sizeof bytes);
     bool library = words[1][0] == 'l';
     if (words[2][0] == 'l') {
-        size_t room = sizeof spans / sizeof *spans;
-        return (library ? crashlog_list : plain_list)(bytes, length, table.rules, table.numbers, UINT64_MAX, spans, room).answer;
+        crashlog_listing told;
+        uint64_t room = sizeof spans / sizeof *spans;
+        return (library ? crashlog_list : plain_list)(bytes, length, table.rules, table.numbers, UINT64_MAX, spans, room, &told);
     }
-    return (library ? crashlog_normalise : plain_normalise)(bytes, length, out, sizeof out).answer;
+    uint64_t written;
+    return (library ? crashlog_normalise : plain_normalise)(bytes, length, out, sizeof out, &written);
 }

@@ -1,9 +1,9 @@
 /* The peak stack of each function of crashlog.h. The stack below a call is painted; afterwards it is seen how far down the
  * paint is gone. A function's figure is the most over calls of all kinds: each header type and layout, Boxes deeper than they
  * are opened, short and long bodies, refusals. */
-#include "crashlog.h"
+#include <stdio.h>
 
-extern int printf(const char *format, ...);
+#include "crashlog.h"
 
 #define DEPTH 65536
 #define PAINT 0xa5
@@ -14,18 +14,21 @@ static uint32_t rules[CRASHLOG_RULE_WORDS * CRASHLOG_MOST_RULES];
 static uint32_t spans[NESTED * CRASHLOG_SPAN_WORDS], table[8 * CRASHLOG_SECTION_WORDS];
 static crashlog_header header;
 
-/* What the next call is made on, and the most that a call has used. */
-static size_t length, rules_len, room, most;
-static uint64_t limit;
+/* What the next call is made on, what it tells, and the most that a call has used. */
+static uint64_t length, rules_len, room, limit, count;
 static uint32_t number;
+static crashlog_listing listed;
+static crashlog_judged judged;
+static crashlog_part part;
+static size_t most;
 
 static void nothing(void) {}
-static void list(void) { crashlog_list(bytes, length, rules, rules_len, limit, spans, room); }
-static void decode(void) { crashlog_decode(bytes, length, rules, rules_len, &header); }
-static void encode(void) { crashlog_encode(&header, rules, rules_len, out, room); }
-static void sections(void) { crashlog_sections(bytes, length, table, room); }
-static void section(void) { crashlog_section(bytes, length, number); }
-static void normalise(void) { crashlog_normalise(bytes, length, out, sizeof out / 24 * room); }
+static void list(void) { crashlog_list(bytes, length, rules, rules_len, limit, spans, room, &listed); }
+static void decode(void) { crashlog_decode(bytes, length, rules, rules_len, &header, &judged); }
+static void encode(void) { crashlog_encode(&header, rules, rules_len, out, room, &count); }
+static void sections(void) { crashlog_sections(bytes, length, table, room, &count); }
+static void section(void) { crashlog_section(bytes, length, number, &part); }
+static void normalise(void) { crashlog_normalise(bytes, length, out, sizeof out / 24 * room, &count); }
 static void name(void) { crashlog_name(number, out, room); }
 static void intel_rules(void) { crashlog_intel_rules(rules, room); }
 

@@ -1,5 +1,5 @@
 /*
- * Tries the C interface: sizes and offsets, round trips of headers, the refusals, CPERs, names and Intel's rules.
+ * Tries the C interface: round trips of headers, the refusals, what is told with each answer, CPERs, names and Intel's rules.
  * Prints nothing and ends with status 0 when all is as include/crashlog.h says.
  */
 #include <stdio.h>
@@ -8,42 +8,6 @@
 
 #include "crashlog.h"
 
-_Static_assert(sizeof(crashlog_listing) == 16, "crashlog_listing");
-_Static_assert(offsetof(crashlog_listing, whole) == 2, "whole");
-_Static_assert(offsetof(crashlog_listing, rows) == 4, "rows");
-_Static_assert(offsetof(crashlog_listing, tries) == 8, "tries");
-_Static_assert(sizeof(crashlog_judged) == 12, "crashlog_judged");
-_Static_assert(offsetof(crashlog_judged, flags) == 2, "flags");
-_Static_assert(offsetof(crashlog_judged, declared) == 4, "declared");
-_Static_assert(offsetof(crashlog_judged, header_size) == 8, "header_size");
-_Static_assert(sizeof(crashlog_written) == 8, "crashlog_written");
-_Static_assert(offsetof(crashlog_written, length) == 4, "length");
-_Static_assert(sizeof(crashlog_table) == 8, "crashlog_table");
-_Static_assert(offsetof(crashlog_table, rows) == 4, "rows");
-_Static_assert(sizeof(crashlog_part) == 12, "crashlog_part");
-_Static_assert(offsetof(crashlog_part, length) == 8, "length");
-_Static_assert(sizeof(crashlog_header) == 568, "crashlog_header");
-_Static_assert(_Alignof(crashlog_header) == 8, "crashlog_header");
-_Static_assert(offsetof(crashlog_header, timestamp) == 0, "timestamp");
-_Static_assert(offsetof(crashlog_header, revision) == 8, "revision");
-_Static_assert(offsetof(crashlog_header, product_id) == 12, "product_id");
-_Static_assert(offsetof(crashlog_header, agent_version) == 16, "agent_version");
-_Static_assert(offsetof(crashlog_header, reason) == 20, "reason");
-_Static_assert(offsetof(crashlog_header, completion_status) == 24, "completion_status");
-_Static_assert(offsetof(crashlog_header, error_status) == 28, "error_status");
-_Static_assert(offsetof(crashlog_header, whoami) == 32, "whoami");
-_Static_assert(offsetof(crashlog_header, misc) == 36, "misc");
-_Static_assert(offsetof(crashlog_header, header_type) == 40, "header_type");
-_Static_assert(offsetof(crashlog_header, record_size) == 42, "record_size");
-_Static_assert(offsetof(crashlog_header, extended_record_size) == 44, "extended_record_size");
-_Static_assert(offsetof(crashlog_header, completion_status_size) == 46, "completion_status_size");
-_Static_assert(offsetof(crashlog_header, record_type) == 48, "record_type");
-_Static_assert(offsetof(crashlog_header, layout) == 51, "layout");
-_Static_assert(offsetof(crashlog_header, die_id) == 52, "die_id");
-_Static_assert(offsetof(crashlog_header, collection_complete) == 54, "collection_complete");
-_Static_assert(offsetof(crashlog_header, reserved) == 55, "reserved");
-_Static_assert(offsetof(crashlog_header, completion_statuses) == 56, "completion_statuses");
-
 #define EXPECT(fact)                                                          \
     do {                                                                      \
         if (!(fact)) {                                                        \
@@ -51,6 +15,80 @@ _Static_assert(offsetof(crashlog_header, completion_statuses) == 56, "completion
             exit(1);                                                          \
         }                                                                     \
     } while (0)
+
+/*
+ * What the last call told. Each of the functions below makes one call, after these were filled with other bytes: what a call
+ * leaves unwritten is found by what it is expected to tell.
+ */
+static crashlog_listing listed;
+static crashlog_judged judged;
+static crashlog_part part;
+static uint64_t count; /* bytes or rows */
+
+static void forget(void)
+{
+    memset(&listed, 0xee, sizeof listed);
+    memset(&judged, 0xee, sizeof judged);
+    memset(&part, 0xee, sizeof part);
+    memset(&count, 0xee, sizeof count);
+}
+
+static uint32_t list(const uint8_t *region, uint64_t length, const uint32_t *rules, uint64_t rules_len, uint64_t limit,
+                     uint32_t *spans, uint64_t spans_len)
+{
+    forget();
+    return crashlog_list(region, length, rules, rules_len, limit, spans, spans_len, &listed);
+}
+
+static uint32_t decode(const uint8_t *bytes, uint64_t length, const uint32_t *rules, uint64_t rules_len,
+                       crashlog_header *header)
+{
+    forget();
+    return crashlog_decode(bytes, length, rules, rules_len, header, &judged);
+}
+
+static uint32_t encode(const crashlog_header *header, const uint32_t *rules, uint64_t rules_len, uint8_t *out, uint64_t room)
+{
+    forget();
+    return crashlog_encode(header, rules, rules_len, out, room, &count);
+}
+
+static uint32_t sections(const uint8_t *cper, uint64_t length, uint32_t *table, uint64_t table_len)
+{
+    forget();
+    return crashlog_sections(cper, length, table, table_len, &count);
+}
+
+static uint32_t section(const uint8_t *cper, uint64_t length, uint32_t row)
+{
+    forget();
+    return crashlog_section(cper, length, row, &part);
+}
+
+static uint32_t normalise(const uint8_t *cper, uint64_t length, uint8_t *out, uint64_t room)
+{
+    forget();
+    return crashlog_normalise(cper, length, out, room, &count);
+}
+
+/* All that a listing told. */
+static int told_listing(uint64_t rows, uint64_t tries, uint64_t bad_type, uint64_t whole)
+{
+    return listed.rows == rows && listed.tries == tries && listed.bad_type == bad_type && listed.whole == whole &&
+           listed.stop == 0;
+}
+
+/* All that a decode told. */
+static int told_header(uint64_t declared, uint64_t header_size, uint64_t flags, uint64_t bad_type)
+{
+    return judged.declared == declared && judged.header_size == header_size && judged.flags == flags &&
+           judged.bad_type == bad_type && judged.ending == 0;
+}
+
+static int told_part(uint64_t offset, uint64_t length)
+{
+    return part.offset == offset && part.length == length;
+}
 
 /* The bytes of a header's fields, without the struct's padding. */
 #define FIELD_BYTES (offsetof(crashlog_header, completion_statuses) + sizeof(uint32_t) * CRASHLOG_MOST_STATUSES)
@@ -97,7 +135,7 @@ static void clear_unread(uint8_t *bytes, int layout)
 }
 
 /* Headers of a type, or of the layout that some rules choose, from any bytes: decoded, encoded, decoded again. */
-static void round_trips(int type, int layout, const uint32_t *rules, size_t rules_len)
+static void round_trips(int type, int layout, const uint32_t *rules, uint64_t rules_len)
 {
     uint8_t bytes[536], out[540];
     crashlog_header header, again;
@@ -108,24 +146,24 @@ static void round_trips(int type, int layout, const uint32_t *rules, size_t rule
         bytes[0] |= 1;
         bytes[1] = (uint8_t)((bytes[1] & 0xf0) | type);
         memset(&header, 0xff, sizeof header);
-        crashlog_judged got = crashlog_decode(bytes, sizeof bytes, rules, rules_len, &header);
-        EXPECT(got.answer == CRASHLOG_DONE && got.bad_type == 0 && got.reserved == 0);
+        EXPECT(decode(bytes, sizeof bytes, rules, rules_len, &header) == CRASHLOG_DONE);
+        EXPECT(judged.bad_type == 0 && judged.ending == 0 && judged.flags == (rules_len == 0 ? 0 : rules[2]));
         EXPECT(header.layout == layout && header.header_type == type && header.reserved == 0);
+        uint64_t length = judged.header_size;
 
         memset(out, 0xaa, sizeof out);
-        crashlog_written put = crashlog_encode(&header, rules, rules_len, out, sizeof out);
-        EXPECT(put.answer == CRASHLOG_DONE && put.length == got.header_size);
+        EXPECT(encode(&header, rules, rules_len, out, sizeof out) == CRASHLOG_DONE && count == length);
         clear_unread(bytes, layout);
-        EXPECT(memcmp(out, bytes, put.length) == 0);
-        EXPECT(all(out + put.length, sizeof out - put.length, 0xaa));
+        EXPECT(memcmp(out, bytes, length) == 0);
+        EXPECT(all(out + length, sizeof out - length, 0xaa));
 
         memset(&again, 0, sizeof again);
-        EXPECT(crashlog_decode(out, put.length, rules, rules_len, &again).answer == CRASHLOG_DONE);
+        EXPECT(decode(out, length, rules, rules_len, &again) == CRASHLOG_DONE && judged.header_size == length);
         EXPECT(same(&header, &again));
 
         memset(out, 0xaa, sizeof out);
-        put = crashlog_encode(&header, rules, rules_len, out, put.length - 1);
-        EXPECT(put.answer == CRASHLOG_OUTPUT_SHORT && put.length == 0 && all(out, sizeof out, 0xaa));
+        EXPECT(encode(&header, rules, rules_len, out, length - 1) == CRASHLOG_OUTPUT_SHORT);
+        EXPECT(count == 0 && all(out, sizeof out, 0xaa));
     }
 }
 
@@ -136,33 +174,30 @@ static void decode_refusals(void)
     static const uint8_t marked[] = {0xef, 0xbe, 0xad, 0xde, 0x02, 0, 0, 0};
     static const uint8_t zero[] = {0, 0, 0, 0, 0x02, 0, 0, 0};
     crashlog_header header, before;
-    crashlog_judged got;
 
     memset(&header, 0x5a, sizeof header);
     before = header;
-    got = crashlog_decode(cut, sizeof cut, NULL, 0, &header);
-    EXPECT(got.answer == CRASHLOG_BAD_HEADER && got.declared == 0 && got.header_size == 0);
-    got = crashlog_decode(bad, sizeof bad, NULL, 0, &header);
-    EXPECT(got.answer == CRASHLOG_BAD_TYPE && got.bad_type == 7);
-    EXPECT(crashlog_decode(bad, 5, NULL, 0, &header).answer == CRASHLOG_BAD_HEADER);
-    EXPECT(crashlog_decode(marked, sizeof marked, NULL, 0, &header).answer == CRASHLOG_ENDED);
-    EXPECT(crashlog_decode(zero, sizeof zero, NULL, 0, &header).answer == CRASHLOG_ENDED);
-    EXPECT(crashlog_decode(bad, 3, NULL, 0, &header).answer == CRASHLOG_ENDED);
-    EXPECT(crashlog_decode(NULL, 0, NULL, 0, &header).answer == CRASHLOG_ENDED);
-    EXPECT(crashlog_decode(NULL, 0, bad_rules, 3, &header).answer == CRASHLOG_BAD_RULES);
-    EXPECT(crashlog_decode(bad, sizeof bad, bad_rules, 2, &header).answer == CRASHLOG_BAD_RULES);
-    EXPECT(same(&header, &before));
+    EXPECT(decode(cut, sizeof cut, NULL, 0, &header) == CRASHLOG_BAD_HEADER && told_header(0, 0, 0, 0));
+    EXPECT(decode(bad, sizeof bad, NULL, 0, &header) == CRASHLOG_BAD_TYPE && told_header(0, 0, 0, 7));
+    EXPECT(decode(bad, 5, NULL, 0, &header) == CRASHLOG_BAD_HEADER && told_header(0, 0, 0, 0));
+    EXPECT(decode(marked, sizeof marked, NULL, 0, &header) == CRASHLOG_ENDED && told_header(0, 0, 0, 0));
+    EXPECT(decode(zero, sizeof zero, NULL, 0, &header) == CRASHLOG_ENDED && told_header(0, 0, 0, 0));
+    EXPECT(decode(bad, 3, NULL, 0, &header) == CRASHLOG_ENDED && told_header(0, 0, 0, 0));
+    EXPECT(decode(NULL, 0, NULL, 0, &header) == CRASHLOG_ENDED && told_header(0, 0, 0, 0));
+    EXPECT(decode(NULL, 0, bad_rules, 3, &header) == CRASHLOG_BAD_RULES && told_header(0, 0, 0, 0));
+    EXPECT(decode(bad, sizeof bad, bad_rules, 2, &header) == CRASHLOG_BAD_RULES && told_header(0, 0, 0, 0));
+    EXPECT(memcmp(&header, &before, sizeof header) == 0);
 }
 
 /* The answer to one header, and that a refusal leaves the output as it was. */
-static uint32_t encodes(const crashlog_header *header, const uint32_t *rules, size_t rules_len)
+static uint32_t encodes(const crashlog_header *header, const uint32_t *rules, uint64_t rules_len)
 {
     uint8_t out[536];
 
     memset(out, 0xaa, sizeof out);
-    crashlog_written put = crashlog_encode(header, rules, rules_len, out, sizeof out);
-    EXPECT(put.answer == CRASHLOG_DONE || (put.length == 0 && all(out, sizeof out, 0xaa)));
-    return put.answer;
+    uint32_t answer = encode(header, rules, rules_len, out, sizeof out);
+    EXPECT(answer == CRASHLOG_DONE || (count == 0 && all(out, sizeof out, 0xaa)));
+    return answer;
 }
 
 static void encode_refusals(void)
@@ -207,85 +242,86 @@ static void worked_headers(void)
 
     for (int i = 0; i < 4; i++) {
         bytes[0] = revisions[i];
-        EXPECT(crashlog_decode(bytes, 32, server_rules, 3, &header).answer == CRASHLOG_DONE);
+        EXPECT(decode(bytes, 32, server_rules, 3, &header) == CRASHLOG_DONE);
+        EXPECT(told_header(0, 32, CRASHLOG_LEGACY_SERVER, 0));
         EXPECT(header.die_id == dies[i] && header.layout == CRASHLOG_LAYOUT_LEGACY_SERVER);
     }
     bytes[1] = 0x36;
+    bytes[4] = 5;
     bytes[26] = bytes[27] = 0xff;
-    EXPECT(crashlog_decode(bytes, 536, NULL, 0, &header).header_size == 536);
+    EXPECT(decode(bytes, 536, NULL, 0, &header) == CRASHLOG_DONE && told_header(20, 536, 0, 0));
     EXPECT(header.completion_status_size == 127 && header.collection_complete == 1);
-    EXPECT(crashlog_decode(bytes, 535, NULL, 0, &header).answer == CRASHLOG_BAD_HEADER);
+    EXPECT(decode(bytes, 535, NULL, 0, &header) == CRASHLOG_BAD_HEADER && told_header(0, 0, 0, 0));
     bytes[26] = 0x80;
-    EXPECT(crashlog_decode(bytes, 536, NULL, 0, &header).header_size == 28);
+    EXPECT(decode(bytes, 536, NULL, 0, &header) == CRASHLOG_DONE && told_header(20, 28, 0, 0));
     EXPECT(header.completion_status_size == 0);
 }
 
 static void listings(void)
 {
     static uint8_t region[CRASHLOG_MOST_BYTES + 1];
-    uint32_t spans[CRASHLOG_SPAN_WORDS] = {9, 9, 9, 9, 9, 9, 9, 9};
-    crashlog_listing got;
+    const uint64_t one = CRASHLOG_SPAN_WORDS; /* room for a row */
+    uint32_t spans[CRASHLOG_SPAN_WORDS + 1];
 
-    got = crashlog_list(NULL, 0, NULL, 0, 0, NULL, 0);
-    EXPECT(got.answer == CRASHLOG_EMPTY_REGION && got.tries == 0 && got.rows == 0 && got.whole == 0);
-    got = crashlog_list(region, sizeof region, bad_rules, 3, 9, spans, 8);
-    EXPECT(got.answer == CRASHLOG_TOO_LONG && got.tries == 0);
-    got = crashlog_list(region, CRASHLOG_MOST_BYTES, bad_rules, 3, 9, spans, 8);
-    EXPECT(got.answer == CRASHLOG_BAD_RULES);
-    got = crashlog_list(region, 8, NULL, 0, 0, spans, 8);
-    EXPECT(got.answer == CRASHLOG_TRIES_SPENT && got.tries == 0);
+    memset(spans, 0xaa, sizeof spans);
+    EXPECT(list(NULL, 0, NULL, 0, 0, NULL, 0) == CRASHLOG_EMPTY_REGION && told_listing(0, 0, 0, 0));
+    EXPECT(list(region, sizeof region, bad_rules, 3, 9, spans, one) == CRASHLOG_TOO_LONG && told_listing(0, 0, 0, 0));
+    EXPECT(list(region, sizeof region - 1, bad_rules, 3, 9, spans, one) == CRASHLOG_BAD_RULES && told_listing(0, 0, 0, 0));
+    EXPECT(list(region, 8, NULL, 0, 0, spans, one) == CRASHLOG_TRIES_SPENT && told_listing(0, 0, 0, 0));
+    EXPECT(list(region, 8, NULL, 0, 9, spans, one) == CRASHLOG_EMPTY_REGION && told_listing(0, 1, 0, 0));
     memcpy(region, "\x01\x37\x12\x03\x02", 5);
-    got = crashlog_list(region, 8, NULL, 0, 9, spans, 8);
-    EXPECT(got.answer == CRASHLOG_BAD_TYPE && got.bad_type == 7 && got.tries == 1);
-    EXPECT(spans[0] == 9 && spans[7] == 9);
+    EXPECT(list(region, 8, NULL, 0, 9, spans, one) == CRASHLOG_BAD_TYPE && told_listing(0, 1, 7, 0));
+    EXPECT(list(region, 5, NULL, 0, 9, spans, one) == CRASHLOG_BAD_HEADER && told_listing(0, 1, 0, 0));
     region[1] = 0x31;
-    got = crashlog_list(region, 8, NULL, 0, 9, spans, 7);
-    EXPECT(got.answer == CRASHLOG_SPANS_FULL && got.rows == 0 && got.tries == 1 && spans[0] == 9);
-    got = crashlog_list(region, 8, NULL, 0, 9, spans, 8);
-    EXPECT(got.answer == CRASHLOG_DONE && got.whole == 1 && got.rows == 1);
+    EXPECT(list(region, 8, NULL, 0, 9, spans, one - 1) == CRASHLOG_SPANS_FULL && told_listing(0, 1, 0, 0));
+    EXPECT(all((const uint8_t *)spans, sizeof spans, 0xaa));
+    EXPECT(list(region, 16, NULL, 0, 1, spans, one) == CRASHLOG_TRIES_SPENT && told_listing(1, 1, 0, 0));
+    memset(spans, 0xaa, sizeof spans);
+    EXPECT(list(region, 8, NULL, 0, 9, spans, one) == CRASHLOG_DONE && told_listing(1, 1, 0, 1));
     EXPECT(spans[CRASHLOG_SPAN_LEVEL] == 0 && spans[CRASHLOG_SPAN_PARENT] == CRASHLOG_NO_PARENT);
+    EXPECT(spans[CRASHLOG_SPAN_OFFSET] == 0 && spans[CRASHLOG_SPAN_HELD] == 8);
     EXPECT(spans[CRASHLOG_SPAN_DECLARED] == 8 && spans[CRASHLOG_SPAN_HEADER_SIZE] == 8);
     EXPECT(spans[CRASHLOG_SPAN_VERSION] == 0x03123101 && spans[CRASHLOG_SPAN_FLAGS] == 0);
+    EXPECT(spans[CRASHLOG_SPAN_WORDS] == 0xaaaaaaaa);
 }
 
 /* Two sections, of which the second lies past the end of the input. */
 static void cpers(void)
 {
-    uint8_t cper[128 + 2 * 72 + 5] = {0}, out[400];
-    uint32_t table[6] = {9, 9, 9, 9, 9, 9};
-    crashlog_written put;
-    crashlog_table got;
-    crashlog_part part;
+    static uint8_t cper[CRASHLOG_MOST_BYTES + 1];
+    const uint64_t size = 128 + 2 * 72 + 5;
+    uint8_t out[400];
+    uint32_t table[2 * CRASHLOG_SECTION_WORDS];
 
     memcpy(cper, "CPER\0\0\xff\xff\xff\xff\x02", 11);
-    cper[12] = 4;                                   /* a severity that becomes 3 */
+    cper[12] = 4; /* a severity that becomes 3 */
     cper[128] = (uint8_t)(128 + 2 * 72), cper[129] = 1, cper[132] = 5;
     cper[200] = 255, cper[201] = 255, cper[204] = 5;
     memcpy(cper + 128 + 2 * 72, "bytes", 5);
 
-    got = crashlog_sections(cper, sizeof cper, table, 6);
-    EXPECT(got.answer == CRASHLOG_DONE && got.rows == 1);
+    memset(table, 0xaa, sizeof table);
+    EXPECT(sections(cper, size, table, CRASHLOG_SECTION_WORDS - 1) == CRASHLOG_SECTIONS_FULL && count == 0);
+    EXPECT(sections(cper, 127, table, 6) == CRASHLOG_NOT_CPER && count == 0);
+    EXPECT(sections(cper, sizeof cper, table, 6) == CRASHLOG_TOO_LONG && count == 0);
+    EXPECT(sections(NULL, 0, NULL, 0) == CRASHLOG_NOT_CPER && count == 0);
+    EXPECT(all((const uint8_t *)table, sizeof table, 0xaa));
+    EXPECT(sections(cper, size, table, 6) == CRASHLOG_DONE && count == 1);
     EXPECT(table[CRASHLOG_SECTION_INDEX] == 0 && table[CRASHLOG_SECTION_OFFSET] == 272);
-    EXPECT(table[CRASHLOG_SECTION_LENGTH] == 5 && table[3] == 9);
-    got = crashlog_sections(cper, sizeof cper, table, 2);
-    EXPECT(got.answer == CRASHLOG_SECTIONS_FULL && got.rows == 0);
-    EXPECT(crashlog_sections(cper, 127, table, 6).answer == CRASHLOG_NOT_CPER);
-    EXPECT(crashlog_sections(NULL, 0, NULL, 0).answer == CRASHLOG_NOT_CPER);
+    EXPECT(table[CRASHLOG_SECTION_LENGTH] == 5 && table[CRASHLOG_SECTION_WORDS] == 0xaaaaaaaa);
 
-    part = crashlog_section(cper, sizeof cper, 0);
-    EXPECT(part.answer == CRASHLOG_DONE && part.offset == 272 && part.length == 5);
-    part = crashlog_section(cper, sizeof cper, 1);
-    EXPECT(part.answer == CRASHLOG_NONE && part.offset == 0 && part.length == 0);
-    EXPECT(crashlog_section(cper, 127, 0).answer == CRASHLOG_NOT_CPER);
+    EXPECT(section(cper, size, 0) == CRASHLOG_DONE && told_part(272, 5));
+    EXPECT(section(cper, size, 1) == CRASHLOG_NONE && told_part(0, 0));
+    EXPECT(section(cper, 127, 0) == CRASHLOG_NOT_CPER && told_part(0, 0));
+    EXPECT(section(cper, sizeof cper, 0) == CRASHLOG_TOO_LONG && told_part(0, 0));
 
     memset(out, 0xaa, sizeof out);
-    put = crashlog_normalise(cper, sizeof cper, out, 204);
-    EXPECT(put.answer == CRASHLOG_OUTPUT_SHORT && put.length == 0 && all(out, sizeof out, 0xaa));
-    put = crashlog_normalise(cper, sizeof cper, out, sizeof out);
-    EXPECT(put.answer == CRASHLOG_DONE && put.length == 205);
+    EXPECT(normalise(cper, size, out, 204) == CRASHLOG_OUTPUT_SHORT && count == 0);
+    EXPECT(normalise(cper, 127, out, sizeof out) == CRASHLOG_NOT_CPER && count == 0);
+    EXPECT(normalise(cper, sizeof cper, out, sizeof out) == CRASHLOG_TOO_LONG && count == 0);
+    EXPECT(all(out, sizeof out, 0xaa));
+    EXPECT(normalise(cper, size, out, sizeof out) == CRASHLOG_DONE && count == 205);
     EXPECT(out[10] == 1 && out[12] == 3 && out[20] == 205 && out[128] == 200 && memcmp(out + 200, "bytes", 5) == 0);
     EXPECT(all(out + 205, sizeof out - 205, 0xaa));
-    EXPECT(crashlog_normalise(cper, 127, out, sizeof out).answer == CRASHLOG_NOT_CPER);
 }
 
 static void names(void)
@@ -307,7 +343,6 @@ static void intel_rules(void)
     uint32_t rules[CRASHLOG_INTEL_RULE_WORDS + 1], spans[CRASHLOG_SPAN_WORDS];
     uint8_t bytes[32] = {0x01, 0xf0, 0x02, 0x03, [16] = 8}; /* type 0 of product 0x2f, 8 words */
     crashlog_header header = {0};
-    crashlog_judged got;
 
     memset(rules, 0xaa, sizeof rules);
     EXPECT(crashlog_intel_rules(NULL, 0) == words);
@@ -316,18 +351,18 @@ static void intel_rules(void)
     EXPECT(rules[words - 1] == CRASHLOG_SIZES_IN_BYTES && rules[words] == 0xaaaaaaaa);
     EXPECT(crashlog_intel_rules(rules, words + 1) == words && rules[words] == 0xaaaaaaaa);
 
-    got = crashlog_decode(bytes, sizeof bytes, rules, words, &header);
-    EXPECT(got.answer == CRASHLOG_DONE && got.flags == CRASHLOG_LEGACY_SERVER && got.declared == 32);
+    EXPECT(decode(bytes, sizeof bytes, rules, words, &header) == CRASHLOG_DONE);
+    EXPECT(told_header(32, 32, CRASHLOG_LEGACY_SERVER, 0));
     EXPECT(header.layout == CRASHLOG_LAYOUT_LEGACY_SERVER && header.product_id == 0x2f);
     bytes[3] = 0x04;
-    EXPECT(crashlog_list(bytes, sizeof bytes, rules, words, 9, spans, 8).answer == CRASHLOG_DONE);
+    EXPECT(list(bytes, sizeof bytes, rules, words, 9, spans, CRASHLOG_SPAN_WORDS) == CRASHLOG_DONE);
     EXPECT(spans[CRASHLOG_SPAN_FLAGS] == (CRASHLOG_LEGACY_SERVER | CRASHLOG_LEGACY_SERVER_BOX));
     memcpy(bytes, "\x01\xe0\x05\x03", 4); /* type 0 of product 0x5e */
-    got = crashlog_decode(bytes, sizeof bytes, rules, words, &header);
-    EXPECT(got.flags == CRASHLOG_LEGACY_GPU && header.layout == CRASHLOG_LAYOUT_LEGACY_GPU);
+    EXPECT(decode(bytes, sizeof bytes, rules, words, &header) == CRASHLOG_DONE);
+    EXPECT(told_header(32, 32, CRASHLOG_LEGACY_GPU, 0) && header.layout == CRASHLOG_LAYOUT_LEGACY_GPU);
     memcpy(bytes, "\x01\x51\x08\x04\x20\0\0\0", 8); /* type 1 of product 0x85, 32 bytes */
-    got = crashlog_decode(bytes, sizeof bytes, rules, words, &header);
-    EXPECT(got.flags == CRASHLOG_SIZES_IN_BYTES && got.declared == 32 && header.layout == 1);
+    EXPECT(decode(bytes, sizeof bytes, rules, words, &header) == CRASHLOG_DONE);
+    EXPECT(told_header(32, 8, CRASHLOG_SIZES_IN_BYTES, 0) && header.layout == 1);
 }
 
 /* The flags that Intel's errata give a header. */

@@ -1,8 +1,8 @@
 /*
  * Decodes the record header at the start of a file, and prints its fields.
  *
- *     cc -I include -o decode examples/decode.c target/staticlib/libcrashlog.a
- *     ./decode FILE [MASK WANTED FLAGS]..
+ *     tools/x86 cc -I include -o decode examples/decode.c target/staticlib/libcrashlog.a
+ *     tools/x86 run ./decode FILE [MASK WANTED FLAGS]..
  *
  * Each MASK WANTED FLAGS is a row of the rule table; 0x1f is a number too.
  */
@@ -51,7 +51,7 @@ int main(int argc, char **argv)
 {
     uint8_t bytes[536]; /* no header is longer */
     uint32_t rules[CRASHLOG_MOST_RULES * CRASHLOG_RULE_WORDS + 1];
-    size_t rules_len = 0;
+    uint64_t rules_len = 0;
     crashlog_header header = {0};
 
     FILE *file = argc > 1 ? fopen(argv[1], "rb") : NULL;
@@ -64,12 +64,12 @@ int main(int argc, char **argv)
     for (int i = 2; i < argc && rules_len < sizeof rules / sizeof rules[0]; i++)
         rules[rules_len++] = (uint32_t)strtoul(argv[i], NULL, 0);
 
-    crashlog_judged got = crashlog_decode(bytes, length, rules, rules_len, &header);
+    crashlog_judged told;
 
-    switch (got.answer) {
+    switch (crashlog_decode(bytes, length, rules, rules_len, &header, &told)) {
     case CRASHLOG_DONE:
-        printf("layout %d flags %d header %" PRIu32 " bytes, record %" PRIu32 " bytes\n",
-               header.layout, got.flags, got.header_size, got.declared);
+        printf("layout %d flags %" PRIu64 " header %" PRIu64 " bytes, record %" PRIu64 " bytes\n",
+               header.layout, told.flags, told.header_size, told.declared);
         print_fields(&header);
         break;
     case CRASHLOG_ENDED:
@@ -82,7 +82,7 @@ int main(int argc, char **argv)
         printf("bad header\n");
         break;
     case CRASHLOG_BAD_TYPE:
-        printf("bad type %d\n", got.bad_type);
+        printf("bad type %" PRIu64 "\n", told.bad_type);
         break;
     }
     return 0;

@@ -1,8 +1,8 @@
 /*
  * Lists the records of a region that is in a file, and prints what the dump program prints.
  *
- *     cc -I include -o list examples/list.c target/staticlib/libcrashlog.a
- *     ./list FILE [ROWS [TRIES]]
+ *     tools/x86 cc -I include -o list examples/list.c target/staticlib/libcrashlog.a
+ *     tools/x86 run ./list FILE [ROWS [TRIES]]
  *
  * ROWS is the room for rows and TRIES the limit on header tries; by default there is enough of both.
  */
@@ -38,18 +38,19 @@ int main(int argc, char **argv)
     fclose(file);
 
     uint64_t tries = argc > 3 ? strtoull(argv[3], NULL, 10) : CRASHLOG_MOST_TRIES(length);
-    size_t rows = argc > 2 ? strtoull(argv[2], NULL, 10) : CRASHLOG_MOST_TRIES(length);
+    uint64_t rows = argc > 2 ? strtoull(argv[2], NULL, 10) : CRASHLOG_MOST_TRIES(length);
     uint32_t *spans = calloc(rows + 1, CRASHLOG_SPAN_WORDS * sizeof *spans);
     if (spans == NULL)
         return 2;
 
-    crashlog_listing got = crashlog_list(region, length, NULL, 0, tries, spans, rows * CRASHLOG_SPAN_WORDS);
+    crashlog_listing told;
+    uint32_t answer = crashlog_list(region, length, NULL, 0, tries, spans, rows * CRASHLOG_SPAN_WORDS, &told);
 
     printf("level offset held declared header version name\n");
-    for (uint32_t row = 0; row < got.rows; row++)
-        print_row(spans + (size_t)row * CRASHLOG_SPAN_WORDS);
-    printf("rows %" PRIu32 " tries %" PRIu64 " whole %s answer %d\n",
-           got.rows, got.tries, got.whole ? "yes" : "no", got.answer);
+    for (uint64_t row = 0; row < told.rows; row++)
+        print_row(spans + row * CRASHLOG_SPAN_WORDS);
+    printf("rows %" PRIu64 " tries %" PRIu64 " whole %s answer %" PRIu32 "\n",
+           told.rows, told.tries, told.whole ? "yes" : "no", answer);
     free(spans);
     return 0;
 }

@@ -10,38 +10,44 @@
  * What holds of every function
  *
  * - It reads and writes only what the caller lends, for as long as the call lasts. It allocates nothing, keeps no state and
- *   no pointer, opens no file, never blocks, and always returns. Calls may run on several threads at once, as long as no
- *   buffer that one of them writes is lent to another.
- * - A length counts elements, not bytes: of bytes for uint8_t, of numbers for uint32_t. A pointer with length 0 may be null.
- * - These are the caller's to ensure, since no function can detect them: a pointer with a length above 0 is not null, and
- *   has that many elements; a table of uint32_t is aligned to 4 bytes, a crashlog_header to 8; a header pointer is never
- *   null; and a buffer that is written overlaps no other buffer of the call.
+ *   no pointer, opens no file, never blocks, and always returns. Calls may run on several threads at once, as long as nothing
+ *   that one of them writes is lent to another.
+ * - It takes pointers, uint32_t and uint64_t, and returns a uint32_t: its answer, one of the numbers below (crashlog_name and
+ *   crashlog_intel_rules: a length). What else it tells goes to the lent struct, or uint64_t, that is its last parameter.
+ *   Every call writes that whole, with any answer: 0 where there is nothing to tell.
+ * - A length is a uint64_t and counts elements, not bytes: of bytes for uint8_t, of numbers for uint32_t. A pointer with
+ *   length 0 may be null.
+ * - These are the caller's to ensure, since no function can detect them: a pointer with a length above 0 is not null, and has
+ *   that many elements; a pointer without a length is not null; a table of uint32_t is aligned to 4 bytes, a struct and a
+ *   uint64_t to 8; and what is written, by the last parameter too, overlaps nothing else that the call is lent.
  * - Numbers in the input are little-endian, as the formats have them. Numbers in tables and structs are in the machine's own
  *   byte order: convert them before sending them to another machine.
- * - Any bytes are good input. What is wrong with them is told by the answer, one of the numbers below.
- * - On a refusal nothing that was lent has changed, save with CRASHLOG_SPANS_FULL, CRASHLOG_TRIES_SPENT and
- *   CRASHLOG_SECTIONS_FULL, where the rows told are written. Otherwise only the rows, bytes or header told have changed;
- *   what lies past them in the buffer is as it was.
+ * - Any bytes are good input. What is wrong with them is told by the answer.
+ * - On a refusal nothing that was lent has changed but the last parameter, save with CRASHLOG_SPANS_FULL,
+ *   CRASHLOG_TRIES_SPENT and CRASHLOG_SECTIONS_FULL, where the rows told are written. Otherwise only the rows, bytes or header
+ *   told have changed besides it; what lies past them in the buffer is as it was.
  *
  * The archive needs two symbols from outside: memcpy and memset. A freestanding program supplies its own.
  *
  * A worked call
  *
+ *     #include <inttypes.h>
  *     #include <stdio.h>
  *     #include "crashlog.h"
  *
  *     static uint32_t spans[512 * CRASHLOG_SPAN_WORDS];
  *
- *     void print_records(const uint8_t *region, size_t length)
+ *     void print_records(const uint8_t *region, uint64_t length)
  *     {
- *         crashlog_listing got = crashlog_list(region, length, NULL, 0, CRASHLOG_MOST_TRIES(length),
- *                                              spans, sizeof spans / sizeof spans[0]);
- *         for (uint32_t row = 0; row < got.rows; row++) {
+ *         crashlog_listing told;
+ *         uint32_t answer = crashlog_list(region, length, NULL, 0, CRASHLOG_MOST_TRIES(length),
+ *                                         spans, sizeof spans / sizeof spans[0], &told);
+ *         for (uint64_t row = 0; row < told.rows; row++) {
  *             const uint32_t *span = spans + row * CRASHLOG_SPAN_WORDS;
- *             printf("%u bytes at %u\n", span[CRASHLOG_SPAN_HELD], span[CRASHLOG_SPAN_OFFSET]);
+ *             printf("%" PRIu32 " bytes at %" PRIu32 "\n", span[CRASHLOG_SPAN_HELD], span[CRASHLOG_SPAN_OFFSET]);
  *         }
- *         if (got.answer != CRASHLOG_DONE)
- *             printf("answer %u\n", got.answer);
+ *         if (answer != CRASHLOG_DONE)
+ *             printf("answer %" PRIu32 "\n", answer);
  *     }
  */
 #ifndef CRASHLOG_H
@@ -55,7 +61,7 @@ extern "C" {
 #endif
 
 /* Raised by one with every change after which a caller must be compiled again. */
-#define CRASHLOG_INTERFACE_VERSION 1
+#define CRASHLOG_INTERFACE_VERSION 2
 
 /* The answers. Each function's comment says which of them it gives. */
 #define CRASHLOG_DONE 0          /* none of the below */
@@ -93,7 +99,7 @@ extern "C" {
 /* The numbers of the rule table that crashlog_intel_rules writes: 40 rows. */
 #define CRASHLOG_INTEL_RULE_WORDS 120
 
-/* A row of the span table, number by number. The room is the table's length divided by 8, rounded down. */
+/* A row of the span table, number by number. The room is the table's length divided by CRASHLOG_SPAN_WORDS, rounded down. */
 #define CRASHLOG_SPAN_WORDS 8
 #define CRASHLOG_SPAN_LEVEL 0       /* 0 at the top, 1 in a Box, .. 4 */
 #define CRASHLOG_SPAN_PARENT 1      /* the row of the Box that it lies in; CRASHLOG_NO_PARENT at the top */
@@ -105,7 +111,7 @@ extern "C" {
 #define CRASHLOG_SPAN_FLAGS 7       /* from the rule table */
 #define CRASHLOG_NO_PARENT 4294967295u
 
-/* A row of the section table. The room is the table's length divided by 3, rounded down. */
+/* A row of the section table. The room is the table's length divided by CRASHLOG_SECTION_WORDS, rounded down. */
 #define CRASHLOG_SECTION_WORDS 3
 #define CRASHLOG_SECTION_INDEX 0  /* of its descriptor */
 #define CRASHLOG_SECTION_OFFSET 1 /* of its body, in the CPER */
@@ -113,23 +119,27 @@ extern "C" {
 
 /* What a listing tells. */
 typedef struct {
-    uint8_t answer;
-    uint8_t bad_type; /* with CRASHLOG_BAD_TYPE, else 0 */
-    uint8_t whole;    /* 1 when the answer is 0 and every row holds what it declares, else 0 */
-    uint8_t reserved; /* 0 */
-    uint32_t rows;    /* rows written, from the table's start */
-    uint64_t tries;   /* headers tried */
+    uint64_t rows;     /* rows written, from the table's start */
+    uint64_t tries;    /* headers tried */
+    uint64_t bad_type; /* with CRASHLOG_BAD_TYPE, else 0 */
+    uint64_t whole;    /* 1 when the answer is CRASHLOG_DONE and every row holds what it declares, else 0 */
+    uint64_t stop;     /* 0 */
 } crashlog_listing;
 
-/* What a header decode tells. All but answer and bad_type are 0 unless the answer is 0. */
+/* What a header decode tells. All but bad_type are 0 unless the answer is CRASHLOG_DONE. */
 typedef struct {
-    uint8_t answer;
-    uint8_t bad_type;     /* with CRASHLOG_BAD_TYPE, else 0 */
-    uint8_t flags;        /* from the rule table */
-    uint8_t reserved;     /* 0 */
-    uint32_t declared;    /* bytes that the record says it has */
-    uint32_t header_size; /* bytes of its header */
+    uint64_t declared;    /* bytes that the record says it has */
+    uint64_t header_size; /* bytes of its header */
+    uint64_t flags;       /* from the rule table */
+    uint64_t bad_type;    /* with CRASHLOG_BAD_TYPE, else 0 */
+    uint64_t ending;      /* 0 */
 } crashlog_judged;
+
+/* A part of the input; all 0 unless the answer is CRASHLOG_DONE. */
+typedef struct {
+    uint64_t offset;
+    uint64_t length;
+} crashlog_part;
 
 /* The layouts of a header. 0 to 6 are the header types. */
 #define CRASHLOG_LAYOUT_LEGACY_SERVER 7
@@ -166,35 +176,16 @@ typedef struct {
     uint32_t completion_statuses[CRASHLOG_MOST_STATUSES]; /* layout 6 */
 } crashlog_header;
 
-/* How many bytes were written; 0 on a refusal. */
-typedef struct {
-    uint32_t answer;
-    uint32_t length;
-} crashlog_written;
-
-/* How many rows were written, from the table's start; 0 on a refusal other than CRASHLOG_SECTIONS_FULL. */
-typedef struct {
-    uint32_t answer;
-    uint32_t rows;
-} crashlog_table;
-
-/* A part of the input; offset and length are 0 unless the answer is 0. */
-typedef struct {
-    uint32_t answer;
-    uint32_t offset;
-    uint32_t length;
-} crashlog_part;
-
 /*
  * Lists the records of a region, and of the Boxes in it down to four levels, each Box before what lies in it. At most `limit`
  * headers are tried.
  *
  * Answers: DONE, TOO_LONG, BAD_RULES, BAD_HEADER and BAD_TYPE (of the region's first header), EMPTY_REGION, SPANS_FULL,
- * TRIES_SPENT. With DONE, SPANS_FULL and TRIES_SPENT `rows` rows are written; with any other answer `rows` is 0 and the table
- * is as it was. `tries` is told with every answer.
+ * TRIES_SPENT. With DONE, SPANS_FULL and TRIES_SPENT told->rows rows are written; with any other answer it is 0 and the table
+ * is as it was. told->tries is told with every answer.
  */
-crashlog_listing crashlog_list(const uint8_t *region, size_t region_len, const uint32_t *rules, size_t rules_len,
-                               uint64_t limit, uint32_t *spans, size_t spans_len);
+uint32_t crashlog_list(const uint8_t *region, uint64_t region_len, const uint32_t *rules, uint64_t rules_len, uint64_t limit,
+                       uint32_t *spans, uint64_t spans_len, crashlog_listing *told);
 
 /*
  * Reads the header at the start of some bytes, of any length.
@@ -202,46 +193,49 @@ crashlog_listing crashlog_list(const uint8_t *region, size_t region_len, const u
  * Answers: DONE, BAD_RULES, BAD_HEADER, BAD_TYPE, ENDED. With DONE every field of *header is written; with any other answer
  * *header is untouched. Nothing of it is read.
  */
-crashlog_judged crashlog_decode(const uint8_t *bytes, size_t bytes_len, const uint32_t *rules, size_t rules_len,
-                                crashlog_header *header);
+uint32_t crashlog_decode(const uint8_t *bytes, uint64_t bytes_len, const uint32_t *rules, uint64_t rules_len,
+                         crashlog_header *header, crashlog_judged *told);
 
 /*
  * Writes a header's bytes (8 to 536) to the start of the output. Decoding them under the same rules gives the header again.
+ * *length is how many were written; 0 on a refusal.
  *
  * Answers, in this order: BAD_RULES; BAD_FIELD; OUTPUT_SHORT; DONE. A header can't be encoded when a field exceeds its bits,
  * a yes/no that it has is neither 0 nor 1, its layout is not the one that rules and header type choose, its version word
  * would read as ended, or it is a legacy header with an extended size or with another die than its revision's.
  */
-crashlog_written crashlog_encode(const crashlog_header *header, const uint32_t *rules, size_t rules_len,
-                                 uint8_t *out, size_t out_len);
+uint32_t crashlog_encode(const crashlog_header *header, const uint32_t *rules, uint64_t rules_len,
+                         uint8_t *out, uint64_t out_len, uint64_t *length);
 
 /*
- * Tables the sections of a CPER whose descriptor and whole body lie in the input.
+ * Tables the sections of a CPER whose descriptor and whole body lie in the input. *rows is how many rows were written, from
+ * the table's start; 0 on a refusal other than SECTIONS_FULL.
  *
- * Answers: DONE, TOO_LONG, NOT_CPER, SECTIONS_FULL. With DONE and SECTIONS_FULL `rows` rows are written.
+ * Answers: DONE, TOO_LONG, NOT_CPER, SECTIONS_FULL.
  */
-crashlog_table crashlog_sections(const uint8_t *cper, size_t cper_len, uint32_t *table, size_t table_len);
+uint32_t crashlog_sections(const uint8_t *cper, uint64_t cper_len, uint32_t *table, uint64_t table_len, uint64_t *rows);
 
 /*
  * Where the body of one section of that table is, by its row.
  *
  * Answers: DONE, TOO_LONG, NOT_CPER, NONE.
  */
-crashlog_part crashlog_section(const uint8_t *cper, size_t cper_len, uint32_t row);
+uint32_t crashlog_section(const uint8_t *cper, uint64_t cper_len, uint32_t row, crashlog_part *told);
 
 /*
  * Writes a CPER's normal form to the start of the output: the sections of the table in order, bodies packed after the
- * descriptors, what the record says is absent or reserved as zero. It is 128 bytes, 72 for each section, and the bodies.
+ * descriptors, what the record says is absent or reserved as zero. *length is how many bytes were written: 128, 72 for each
+ * section, and the bodies; 0 on a refusal.
  *
  * Answers: DONE, TOO_LONG, NOT_CPER, OUTPUT_SHORT.
  */
-crashlog_written crashlog_normalise(const uint8_t *cper, size_t cper_len, uint8_t *out, size_t out_len);
+uint32_t crashlog_normalise(const uint8_t *cper, uint64_t cper_len, uint8_t *out, uint64_t out_len, uint64_t *length);
 
 /*
  * The length of a record type's name, at most 16. The name's bytes, with no zero after them, are written to the start of the
  * output where they fit, else the output is as it was. A type without a name is "UNKNOWN".
  */
-uint32_t crashlog_name(uint32_t record_type, uint8_t *out, size_t out_len);
+uint32_t crashlog_name(uint32_t record_type, uint8_t *out, uint64_t out_len);
 
 /*
  * The number of words of Intel's rule table, CRASHLOG_INTEL_RULE_WORDS. The table is written to the start of the output where
@@ -250,7 +244,69 @@ uint32_t crashlog_name(uint32_t record_type, uint8_t *out, size_t out_len);
  * of all other headers, the sizes in bytes in records of type 4 of product 0x85 and of those below 0x71, and in records of
  * type 6 of products below 0x96. No function answers CRASHLOG_BAD_RULES to it.
  */
-uint32_t crashlog_intel_rules(uint32_t *out, size_t out_len);
+uint32_t crashlog_intel_rules(uint32_t *out, uint64_t out_len);
+
+/* How the library has the structs. A compiler that lays one out otherwise can't call it, and stops here. */
+#ifdef __cplusplus
+#define CRASHLOG_HOLDS(fact) static_assert(fact, #fact)
+#define CRASHLOG_ALIGNED(type) CRASHLOG_HOLDS(alignof(type) == 8)
+#else
+#define CRASHLOG_HOLDS(fact) _Static_assert(fact, #fact)
+#define CRASHLOG_ALIGNED(type) CRASHLOG_HOLDS(_Alignof(type) == 8)
+#endif
+#define CRASHLOG_SIZE(type, size) CRASHLOG_HOLDS(sizeof(type) == (size))
+#define CRASHLOG_FIELD(type, field, offset) CRASHLOG_HOLDS(offsetof(type, field) == (offset))
+
+CRASHLOG_ALIGNED(crashlog_listing);
+CRASHLOG_SIZE(crashlog_listing, 40);
+CRASHLOG_FIELD(crashlog_listing, rows, 0);
+CRASHLOG_FIELD(crashlog_listing, tries, 8);
+CRASHLOG_FIELD(crashlog_listing, bad_type, 16);
+CRASHLOG_FIELD(crashlog_listing, whole, 24);
+CRASHLOG_FIELD(crashlog_listing, stop, 32);
+
+CRASHLOG_ALIGNED(crashlog_judged);
+CRASHLOG_SIZE(crashlog_judged, 40);
+CRASHLOG_FIELD(crashlog_judged, declared, 0);
+CRASHLOG_FIELD(crashlog_judged, header_size, 8);
+CRASHLOG_FIELD(crashlog_judged, flags, 16);
+CRASHLOG_FIELD(crashlog_judged, bad_type, 24);
+CRASHLOG_FIELD(crashlog_judged, ending, 32);
+
+CRASHLOG_ALIGNED(crashlog_part);
+CRASHLOG_SIZE(crashlog_part, 16);
+CRASHLOG_FIELD(crashlog_part, offset, 0);
+CRASHLOG_FIELD(crashlog_part, length, 8);
+
+CRASHLOG_ALIGNED(crashlog_header);
+CRASHLOG_SIZE(crashlog_header, 568);
+CRASHLOG_FIELD(crashlog_header, timestamp, 0);
+CRASHLOG_FIELD(crashlog_header, revision, 8);
+CRASHLOG_FIELD(crashlog_header, product_id, 12);
+CRASHLOG_FIELD(crashlog_header, agent_version, 16);
+CRASHLOG_FIELD(crashlog_header, reason, 20);
+CRASHLOG_FIELD(crashlog_header, completion_status, 24);
+CRASHLOG_FIELD(crashlog_header, error_status, 28);
+CRASHLOG_FIELD(crashlog_header, whoami, 32);
+CRASHLOG_FIELD(crashlog_header, misc, 36);
+CRASHLOG_FIELD(crashlog_header, header_type, 40);
+CRASHLOG_FIELD(crashlog_header, record_size, 42);
+CRASHLOG_FIELD(crashlog_header, extended_record_size, 44);
+CRASHLOG_FIELD(crashlog_header, completion_status_size, 46);
+CRASHLOG_FIELD(crashlog_header, record_type, 48);
+CRASHLOG_FIELD(crashlog_header, cldic, 49);
+CRASHLOG_FIELD(crashlog_header, consumed, 50);
+CRASHLOG_FIELD(crashlog_header, layout, 51);
+CRASHLOG_FIELD(crashlog_header, die_id, 52);
+CRASHLOG_FIELD(crashlog_header, socket_id, 53);
+CRASHLOG_FIELD(crashlog_header, collection_complete, 54);
+CRASHLOG_FIELD(crashlog_header, reserved, 55);
+CRASHLOG_FIELD(crashlog_header, completion_statuses, 56);
+
+#undef CRASHLOG_HOLDS
+#undef CRASHLOG_ALIGNED
+#undef CRASHLOG_SIZE
+#undef CRASHLOG_FIELD
 
 #ifdef __cplusplus
 }

@@ -16,8 +16,8 @@ fn decoded(bytes: &[u8], rules: &[u32]) -> Header {
         (library.decode(bytes, rules, &mut header), header)
     });
     assert_eq!(plain, proved);
-    let (judged, header) = proved;
-    assert_eq!(judged.answer, 0);
+    let ((answer, judged), header) = proved;
+    assert_eq!(answer, 0);
     rust::check_header(bytes, rules, &header, &judged);
     header
 }
@@ -28,7 +28,7 @@ fn check_encoding(header: &Header, rules: &[u32]) {
         (library.encode(header, rules, &mut out), out)
     });
     assert_eq!(plain, proved);
-    assert_eq!(proved.0.answer, 0);
+    assert_eq!(proved.0.0, 0);
 }
 
 fn decode_times(slices: &[Vec<u8>], rules: &[u32]) -> Times {

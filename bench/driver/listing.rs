@@ -3,6 +3,7 @@ use crate::inputs::{self, MIB};
 use crate::library::{Library, PLAIN, PROVED};
 use crate::rust;
 use crate::sample::{C, Candidate, LIBRARY, Times, sample};
+use crate::span;
 use crate::table::{compared, heading, ratios, row};
 use crate::targets::Measured;
 use std::cell::RefCell;
@@ -23,7 +24,7 @@ pub const REGIONS: Regions = [
 
 /// Room for the rows of any region here.
 pub fn spans() -> Vec<u32> {
-    vec![0; MIB / 4 * 8]
+    vec![0; MIB / 4 * span::WORDS]
 }
 
 /// How many rows a region has, which all list alike.
@@ -31,13 +32,14 @@ pub fn checked(region: &[u8], rules: &[u32], spans: &mut [u32]) -> usize {
     let limit = inputs::most_tries(region);
     let [plain, proved] = [PLAIN, PROVED].map(|library| {
         spans.fill(inputs::UNTOUCHED);
-        let listing = library.list(region, rules, limit, spans);
-        (listing, spans.to_vec())
+        let told = library.list(region, rules, limit, spans);
+        (told, spans.to_vec())
     });
     assert!(plain == proved, "C lists {:?}, the library {:?}", plain.0, proved.0);
-    assert_eq!(proved.0.answer, 0);
-    let rows = proved.0.rows as usize;
-    rust::check_rows(region, rules, &proved.1[..8 * rows]);
+    let ((answer, listing), spans) = proved;
+    assert_eq!(answer, 0);
+    let rows = listing.rows as usize;
+    rust::check_rows(region, rules, &spans[..span::WORDS * rows]);
     rows
 }
 

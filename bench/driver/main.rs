@@ -1,8 +1,11 @@
 //! Times the library beside plain C and, with `--cfg oracle`, beside the published Rust, on the same inputs. What they give is
-//! compared before they are timed. Prints the tables of docs/SPEED.md. With the name of a folder it writes inputs there for
+//! compared before they are timed. Prints the tables of bench/RESULTS.md. With the name of a folder it writes inputs there for
 //! bench/count instead.
 mod counting;
 mod growth;
+#[allow(dead_code)]
+#[path = "../../compare/src/header.rs"]
+mod header;
 mod headers;
 mod inputs;
 mod library;
@@ -11,6 +14,9 @@ mod normalising;
 #[cfg_attr(not(oracle), path = "no_rust.rs")]
 mod rust;
 mod sample;
+#[allow(dead_code)]
+#[path = "../../compare/src/span.rs"]
+mod span;
 mod table;
 mod targets;
 

@@ -22,12 +22,13 @@ pub fn output() -> Vec<u8> {
 pub fn check(cper: &[u8], out: &mut [u8]) {
     let [plain, proved] = [PLAIN, PROVED].map(|library| {
         out.fill(inputs::UNTOUCHED as u8);
-        let written = library.normalise(cper, out);
-        (written, out.to_vec())
+        let told = library.normalise(cper, out);
+        (told, out.to_vec())
     });
     assert!(plain == proved, "C writes {:?}, the library {:?}", plain.0, proved.0);
-    assert_eq!(proved.0.answer, 0);
-    rust::check_normal_form(cper, &proved.1[..proved.0.length as usize]);
+    let ((answer, length), written) = proved;
+    assert_eq!(answer, 0);
+    rust::check_normal_form(cper, &written[..length as usize]);
 }
 
 /// The output starts elsewhere in a page with each call: how input and output lie to each other changes the times.

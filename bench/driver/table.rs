@@ -3,7 +3,7 @@ use crate::rust;
 use crate::sample::{C, LIBRARY, PUBLISHED, STANDIN, Spread, Times};
 
 pub fn heading(title: &str, columns: &[&str]) {
-    println!("\n### {title}\n");
+    println!("\n## {title}\n");
     println!("| {} |", columns.join(" | "));
     println!("|{}", "---|".repeat(columns.len()));
 }

@@ -79,27 +79,22 @@ static uint8_t layout_of(uint32_t word, uint32_t flags)
     return (uint8_t)header_type(word);
 }
 
-crashlog_judged plain_decode(const uint8_t *bytes, size_t bytes_len, const uint32_t *rules, size_t rules_len,
-                             crashlog_header *header)
+uint32_t plain_decode(const uint8_t *bytes, uint64_t bytes_len, const uint32_t *rules, uint64_t rules_len,
+                      crashlog_header *header, crashlog_judged *told)
 {
-    crashlog_judged judged = {0};
-    if (!rules_valid(rules, rules_len)) {
-        judged.answer = CRASHLOG_BAD_RULES;
-        return judged;
-    }
+    *told = (crashlog_judged){0};
+    if (!rules_valid(rules, rules_len))
+        return CRASHLOG_BAD_RULES;
     uint32_t word = word_of(bytes, bytes_len);
-    if (word == 0) {
-        judged.answer = CRASHLOG_ENDED;
-        return judged;
-    }
+    if (word == 0)
+        return CRASHLOG_ENDED;
     struct frame frame;
     uint32_t flags = flags_of(rules, rules_len, word);
-    judged.answer = judge(bytes, bytes_len, word, flags, &frame);
-    if (judged.answer != CRASHLOG_DONE) {
-        if (judged.answer == CRASHLOG_BAD_TYPE)
-            judged.bad_type = (uint8_t)header_type(word);
-        return judged;
-    }
+    uint32_t answer = judge(bytes, bytes_len, word, flags, &frame);
+    if (answer == CRASHLOG_BAD_TYPE)
+        told->bad_type = header_type(word);
+    if (answer != CRASHLOG_DONE)
+        return answer;
     memset(header, 0, sizeof *header);
     header->revision = word & 255;
     header->header_type = (uint16_t)header_type(word);
@@ -111,8 +106,8 @@ crashlog_judged plain_decode(const uint8_t *bytes, size_t bytes_len, const uint3
     header->record_size = u16_at(bytes + (flags & LEGACY ? 16 : 4));
     header->extended_record_size = flags & LEGACY ? 0 : u16_at(bytes + 6);
     take_fields(header, bytes);
-    judged.flags = (uint8_t)flags;
-    judged.declared = frame.declared;
-    judged.header_size = frame.size;
-    return judged;
+    told->declared = frame.declared;
+    told->header_size = frame.size;
+    told->flags = flags;
+    return CRASHLOG_DONE;
 }

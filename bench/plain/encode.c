@@ -113,29 +113,23 @@ static void put_header(uint8_t *out, const crashlog_header *header, uint32_t wor
     }
 }
 
-crashlog_written plain_encode(const crashlog_header *header, const uint32_t *rules, size_t rules_len,
-                              uint8_t *out, size_t out_len)
+uint32_t plain_encode(const crashlog_header *header, const uint32_t *rules, uint64_t rules_len,
+                      uint8_t *out, uint64_t out_len, uint64_t *length)
 {
-    crashlog_written written = {0};
-    if (!rules_valid(rules, rules_len)) {
-        written.answer = CRASHLOG_BAD_RULES;
-        return written;
-    }
-    written.answer = CRASHLOG_BAD_FIELD;
+    *length = 0;
+    if (!rules_valid(rules, rules_len))
+        return CRASHLOG_BAD_RULES;
     if (!version_fits(header))
-        return written;
+        return CRASHLOG_BAD_FIELD;
     uint32_t word = version_word(header);
     if (word == 0 || word == END_MARK)
-        return written;
+        return CRASHLOG_BAD_FIELD;
     if (!layout_chosen(header, flags_of(rules, rules_len, word)) || !fields_fit(header))
-        return written;
+        return CRASHLOG_BAD_FIELD;
     size_t size = size_of(header);
-    if (out_len < size) {
-        written.answer = CRASHLOG_OUTPUT_SHORT;
-        return written;
-    }
+    if (out_len < size)
+        return CRASHLOG_OUTPUT_SHORT;
     put_header(out, header, word);
-    written.answer = CRASHLOG_DONE;
-    written.length = (uint32_t)size;
-    return written;
+    *length = size;
+    return CRASHLOG_DONE;
 }

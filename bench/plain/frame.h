@@ -54,7 +54,7 @@ static inline uint32_t word_of(const uint8_t *bytes, size_t len)
 }
 
 /* Judges a header whose records have not ended: DONE, BAD_HEADER or BAD_TYPE. */
-static inline uint8_t judge(const uint8_t *bytes, size_t len, uint32_t word, uint32_t flags, struct frame *frame)
+static inline uint32_t judge(const uint8_t *bytes, size_t len, uint32_t word, uint32_t flags, struct frame *frame)
 {
     static const uint8_t sizes[16] = {8, 8, 24, 28, 32, 32, 28};
     unsigned shift = flags & CRASHLOG_SIZES_IN_BYTES ? 0 : 2;

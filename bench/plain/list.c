@@ -69,29 +69,25 @@ static enum cut walk_region(struct walk *walk, const uint8_t *bytes, size_t len,
 }
 
 /* Why the first header is no record. */
-static uint8_t first_answer(const uint8_t *region, size_t len, const uint32_t *rules, size_t rules_len)
+static uint32_t first_answer(const uint8_t *region, size_t len, const uint32_t *rules, size_t rules_len)
 {
     struct frame frame;
     uint32_t word = word_of(region, len);
     if (word == 0)
         return CRASHLOG_EMPTY_REGION;
-    uint8_t answer = judge(region, len, word, flags_of(rules, rules_len, word), &frame);
+    uint32_t answer = judge(region, len, word, flags_of(rules, rules_len, word), &frame);
     return answer == CRASHLOG_DONE ? CRASHLOG_EMPTY_REGION : answer;
 }
 
-crashlog_listing plain_list(const uint8_t *region, size_t region_len, const uint32_t *rules, size_t rules_len,
-                            uint64_t limit, uint32_t *spans, size_t spans_len)
+uint32_t plain_list(const uint8_t *region, uint64_t region_len, const uint32_t *rules, uint64_t rules_len, uint64_t limit,
+                    uint32_t *spans, uint64_t spans_len, crashlog_listing *told)
 {
-    crashlog_listing listing = {0};
-    if (region_len > CRASHLOG_MOST_BYTES) {
-        listing.answer = CRASHLOG_TOO_LONG;
-        return listing;
-    }
-    if (!rules_valid(rules, rules_len)) {
-        listing.answer = CRASHLOG_BAD_RULES;
-        return listing;
-    }
-    size_t room = spans_len / CRASHLOG_SPAN_WORDS;
+    *told = (crashlog_listing){0};
+    if (region_len > CRASHLOG_MOST_BYTES)
+        return CRASHLOG_TOO_LONG;
+    if (!rules_valid(rules, rules_len))
+        return CRASHLOG_BAD_RULES;
+    uint64_t room = spans_len / CRASHLOG_SPAN_WORDS;
     struct walk walk = {
         .rules = rules,
         .rules_len = rules_len,
@@ -101,16 +97,18 @@ crashlog_listing plain_list(const uint8_t *region, size_t region_len, const uint
         .whole = true,
     };
     enum cut cut = walk_region(&walk, region, region_len, 0, 0, CRASHLOG_NO_PARENT);
+    told->rows = walk.rows;
+    told->tries = walk.tries;
     if (cut == FULL)
-        listing.answer = CRASHLOG_SPANS_FULL;
-    else if (cut == SPENT)
-        listing.answer = CRASHLOG_TRIES_SPENT;
-    else if (walk.rows == 0)
-        listing.answer = first_answer(region, region_len, rules, rules_len);
-    if (listing.answer == CRASHLOG_BAD_TYPE)
-        listing.bad_type = (uint8_t)header_type(u32_at(region));
-    listing.whole = listing.answer == CRASHLOG_DONE && walk.whole;
-    listing.rows = walk.rows;
-    listing.tries = walk.tries;
-    return listing;
+        return CRASHLOG_SPANS_FULL;
+    if (cut == SPENT)
+        return CRASHLOG_TRIES_SPENT;
+    if (walk.rows > 0) {
+        told->whole = walk.whole;
+        return CRASHLOG_DONE;
+    }
+    uint32_t answer = first_answer(region, region_len, rules, rules_len);
+    if (answer == CRASHLOG_BAD_TYPE)
+        told->bad_type = header_type(u32_at(region));
+    return answer;
 }

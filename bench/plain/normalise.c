@@ -67,17 +67,13 @@ static inline void put_descriptor(uint8_t *out, const uint8_t *descriptor, uint3
     put_if(bits & 2, out + 52, descriptor + 52, 20);
 }
 
-crashlog_written plain_normalise(const uint8_t *cper, size_t cper_len, uint8_t *out, size_t out_len)
+uint32_t plain_normalise(const uint8_t *cper, uint64_t cper_len, uint8_t *out, uint64_t out_len, uint64_t *length)
 {
-    crashlog_written written = {0};
-    if (cper_len > CRASHLOG_MOST_BYTES) {
-        written.answer = CRASHLOG_TOO_LONG;
-        return written;
-    }
-    if (!is_cper(cper, cper_len)) {
-        written.answer = CRASHLOG_NOT_CPER;
-        return written;
-    }
+    *length = 0;
+    if (cper_len > CRASHLOG_MOST_BYTES)
+        return CRASHLOG_TOO_LONG;
+    if (!is_cper(cper, cper_len))
+        return CRASHLOG_NOT_CPER;
     size_t count = u16_at(cper + 10), kept = 0;
     uint64_t bodies = 0;
     for (size_t index = 0; index < count; index++) {
@@ -88,12 +84,10 @@ crashlog_written plain_normalise(const uint8_t *cper, size_t cper_len, uint8_t *
         }
     }
     size_t to = HEADER_SIZE + DESCRIPTOR_SIZE * kept;
-    uint64_t length = to + bodies;
-    if (out_len < length || length > UINT32_MAX) {
-        written.answer = CRASHLOG_OUTPUT_SHORT;
-        return written;
-    }
-    put_header(out, cper, (uint16_t)kept, (uint32_t)length);
+    uint64_t all = to + bodies;
+    if (out_len < all || all > UINT32_MAX)
+        return CRASHLOG_OUTPUT_SHORT;
+    put_header(out, cper, (uint16_t)kept, (uint32_t)all);
     uint8_t *slot = out + HEADER_SIZE;
     for (size_t index = 0; index < count; index++) {
         const uint8_t *descriptor = kept_descriptor(cper, cper_len, index);
@@ -105,6 +99,6 @@ crashlog_written plain_normalise(const uint8_t *cper, size_t cper_len, uint8_t *
         slot += DESCRIPTOR_SIZE;
         to += size;
     }
-    written.length = (uint32_t)length;
-    return written;
+    *length = all;
+    return CRASHLOG_DONE;
 }

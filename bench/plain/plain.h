@@ -4,15 +4,15 @@
 
 #include "crashlog.h"
 
-crashlog_listing plain_list(const uint8_t *region, size_t region_len, const uint32_t *rules, size_t rules_len,
-                            uint64_t limit, uint32_t *spans, size_t spans_len);
+uint32_t plain_list(const uint8_t *region, uint64_t region_len, const uint32_t *rules, uint64_t rules_len, uint64_t limit,
+                    uint32_t *spans, uint64_t spans_len, crashlog_listing *told);
 
-crashlog_judged plain_decode(const uint8_t *bytes, size_t bytes_len, const uint32_t *rules, size_t rules_len,
-                             crashlog_header *header);
+uint32_t plain_decode(const uint8_t *bytes, uint64_t bytes_len, const uint32_t *rules, uint64_t rules_len,
+                      crashlog_header *header, crashlog_judged *told);
 
-crashlog_written plain_encode(const crashlog_header *header, const uint32_t *rules, size_t rules_len,
-                              uint8_t *out, size_t out_len);
+uint32_t plain_encode(const crashlog_header *header, const uint32_t *rules, uint64_t rules_len,
+                      uint8_t *out, uint64_t out_len, uint64_t *length);
 
-crashlog_written plain_normalise(const uint8_t *cper, size_t cper_len, uint8_t *out, size_t out_len);
+uint32_t plain_normalise(const uint8_t *cper, uint64_t cper_len, uint8_t *out, uint64_t out_len, uint64_t *length);
 
 #endif

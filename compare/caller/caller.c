@@ -4,25 +4,21 @@
  * Standard input has batches: their size in bytes (4 bytes), then requests. A request is the number of the call (4 bytes) and a
  * case as the replay's data has it (src/replay.rs). For each the answer is 64 bytes and what the request says is written:
  *
- *     0   6 x u64  what the call tells
+ *     0   6 x u64  what the call tells: its answer, then the numbers of its struct in order, then zeros
  *     48  i64      the first byte of the lent buffer, or of the guard space around it, that was changed though it is none of
  *                  those written; no such byte: the lowest number
- *     56  u64      1 if the input or the rules were changed
+ *     56  u64      a sum: 1 if the input or the rules were changed, 2 if a number beside the struct was
  *
  * Input and rules end where memory ends, so that a read past them is a fault. All numbers are little-endian.
  */
+#include <string.h>
+#include <sys/mman.h>
+#include <unistd.h>
+
 #include "crashlog.h"
 
-/* From the C library; its headers for x86-64 need not be there. */
-long read(int file, void *to, unsigned long count);
-long write(int file, const void *from, unsigned long count);
-int mprotect(void *from, unsigned long count, int allowed);
-void *memcpy(void *to, const void *from, unsigned long count);
-int memcmp(const void *one, const void *other, unsigned long count);
-_Noreturn void _exit(int status);
-
 enum { HEADERS, ENCODES, LISTINGS, TEXTS, TABLES, SECTIONS, NORMAL_FORMS, NAMES, INTEL_RULES };
-enum { PAGE = 65536, GUARD = 64, FIXED = 80, FIELD_BYTES = 564, MEGABYTE = 1 << 20 };
+enum { PAGE = 65536, GUARD = 64, FIXED = 80, FIELD_BYTES = 564, MEGABYTE = 1 << 20, MOST_TOLD = 5 };
 
 static uint8_t batch[32 * MEGABYTE], answers[96 * MEGABYTE];
 static _Alignas(64) uint8_t area[64 * MEGABYTE];
@@ -118,51 +114,50 @@ static int input_changed(const struct request *asked)
     return memcmp(rules_of(asked), asked->rest, 4 * asked->rules) != 0;
 }
 
-/* What a call tells: the fields of its struct in order. */
-struct told {
-    uint64_t fields[6];
-};
+/* How many numbers a call tells besides its answer. */
+static const int told_by[] = { [HEADERS] = 5, [ENCODES] = 1, [LISTINGS] = 5, [TABLES] = 1, [SECTIONS] = 2, [NORMAL_FORMS] = 1,
+                               [NAMES] = 0, [INTEL_RULES] = 0 };
 
-static struct told call(const struct request *asked)
+/* The struct of a call, with a number before it and at least one after it. */
+static uint64_t numbers[1 + MOST_TOLD + 1];
+
+static const uint64_t untold = 0x5ad35ad35ad35ad3;
+
+static int beside_changed(const struct request *asked)
+{
+    for (int at = 0; at < 1 + MOST_TOLD + 1; at++)
+        if ((at < 1 || at > told_by[asked->call]) && numbers[at] != untold)
+            return 1;
+    return 0;
+}
+
+/* Makes the call of a request. */
+static uint32_t call(const struct request *asked, void *told)
 {
     const uint8_t *input = input_of(asked);
     const uint32_t *rules = rules_of(asked);
     uint8_t *lent = area + GUARD;
     uint32_t *table = (uint32_t *)lent;
     switch (asked->call) {
-    case HEADERS: {
-        crashlog_judged got = crashlog_decode(input, asked->length, rules, asked->rules, (crashlog_header *)lent);
-        return (struct told){ { got.answer, got.bad_type, got.flags, got.reserved, got.declared, got.header_size } };
-    }
+    case HEADERS:
+        return crashlog_decode(input, asked->length, rules, asked->rules, (crashlog_header *)lent, told);
     case ENCODES: {
         crashlog_header header = { 0 };
         memcpy(&header, input, FIELD_BYTES);
-        crashlog_written got = crashlog_encode(&header, rules, asked->rules, lent, asked->room);
-        return (struct told){ { got.answer, got.length } };
+        return crashlog_encode(&header, rules, asked->rules, lent, asked->room, told);
     }
-    case LISTINGS: {
-        crashlog_listing got = crashlog_list(input, asked->length, rules, asked->rules, asked->number, table, asked->room);
-        return (struct told){ { got.answer, got.bad_type, got.whole, got.reserved, got.rows, got.tries } };
-    }
-    case TABLES: {
-        crashlog_table got = crashlog_sections(input, asked->length, table, asked->room);
-        return (struct told){ { got.answer, got.rows } };
-    }
-    case SECTIONS: {
-        crashlog_part got = crashlog_section(input, asked->length, (uint32_t)asked->number);
-        return (struct told){ { got.answer, got.offset, got.length } };
-    }
-    case NORMAL_FORMS: {
-        crashlog_written got = crashlog_normalise(input, asked->length, lent, asked->room);
-        return (struct told){ { got.answer, got.length } };
-    }
-    case NAMES: return (struct told){ { crashlog_name((uint32_t)asked->number, lent, asked->room) } };
-    case INTEL_RULES: return (struct told){ { crashlog_intel_rules(table, asked->room) } };
+    case LISTINGS:
+        return crashlog_list(input, asked->length, rules, asked->rules, asked->number, table, asked->room, told);
+    case TABLES: return crashlog_sections(input, asked->length, table, asked->room, told);
+    case SECTIONS: return crashlog_section(input, asked->length, (uint32_t)asked->number, told);
+    case NORMAL_FORMS: return crashlog_normalise(input, asked->length, lent, asked->room, told);
+    case NAMES: return crashlog_name((uint32_t)asked->number, lent, asked->room);
+    case INTEL_RULES: return crashlog_intel_rules(table, asked->room);
     default: _exit(3);
     }
 }
 
-/* Makes the call of a request; its answer is put there. */
+/* Makes the call of a request; what came of it is put there. */
 static uint8_t *answer(const struct request *asked, uint8_t *to)
 {
     size_t all = GUARD + lent_bytes(asked) + GUARD;
@@ -172,14 +167,16 @@ static uint8_t *answer(const struct request *asked, uint8_t *to)
     set_input(asked);
     for (size_t at = 0; at < all; at++)
         area[at] = pattern(at);
-    struct told told = call(asked);
+    for (int at = 0; at < 1 + MOST_TOLD + 1; at++)
+        numbers[at] = untold;
+    to = put8(to, call(asked, numbers + 1));
     for (size_t at = all; at-- > 0;)
         if (!may_change(asked, at) && area[at] != pattern(at))
             changed = (int64_t)at - GUARD;
-    for (int field = 0; field < 6; field++)
-        to = put8(to, told.fields[field]);
+    for (int field = 0; field < MOST_TOLD; field++)
+        to = put8(to, field < told_by[asked->call] ? numbers[1 + field] : 0);
     to = put8(to, (uint64_t)changed);
-    to = put8(to, (uint64_t)input_changed(asked));
+    to = put8(to, (uint64_t)(input_changed(asked) + 2 * beside_changed(asked)));
     memcpy(to, area + GUARD, asked->written);
     return to + asked->written;
 }
@@ -187,7 +184,7 @@ static uint8_t *answer(const struct request *asked, uint8_t *to)
 int main(void)
 {
     uint8_t size[4];
-    if (mprotect(inputs + 2 * MEGABYTE, PAGE, 0) != 0 || mprotect(tables + PAGE, PAGE, 0) != 0)
+    if (mprotect(inputs + 2 * MEGABYTE, PAGE, PROT_NONE) != 0 || mprotect(tables + PAGE, PAGE, PROT_NONE) != 0)
         return 1;
     while (take(size, sizeof size) && number4(size) <= sizeof batch && take(batch, number4(size))) {
         uint8_t *to = answers;

@@ -35,7 +35,7 @@ pub struct Case {
     /// Elements of the lent buffer: numbers for listings and tables, bytes for encodes, normal forms and names.
     pub room: usize,
     pub input: Rc<[u8]>,
-    /// The fields of the C struct, in order.
+    /// The answer, then the numbers of what else the call tells, in order.
     pub told: [u64; 6],
     /// What the call leaves at the start of the lent buffer; the rest is as it was.
     pub written: Vec<u8>,

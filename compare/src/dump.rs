@@ -1,7 +1,8 @@
 //! The dump program.
 
+use crate::x86;
 use std::io::{self, Write};
-use std::process::{Command, Stdio};
+use std::process::Stdio;
 use std::thread;
 
 pub struct Dump {
@@ -11,7 +12,7 @@ pub struct Dump {
 impl Dump {
     /// What it prints for a region.
     pub fn text(&self, region: &[u8]) -> io::Result<Vec<u8>> {
-        let mut child = Command::new(&self.program).stdin(Stdio::piped()).stdout(Stdio::piped()).spawn()?;
+        let mut child = x86::run(&self.program).stdin(Stdio::piped()).stdout(Stdio::piped()).spawn()?;
         let mut input = child.stdin.take().expect("it is a pipe");
         let region = region.to_vec();
         // It may stop reading early; what it then prints is what counts.

@@ -2,8 +2,9 @@
 
 use crate::case::{Call, Case, Source, table_bytes};
 use crate::rust::standin;
+use crate::span::{self, Span};
 use crate::text;
-use crate::told::{Container, Outcome, Row, Tried, Walk};
+use crate::told::{Container, Outcome, Tried, Walk};
 use std::rc::Rc;
 
 pub const DONE: u64 = 0;
@@ -42,9 +43,9 @@ pub fn decoded(case: Case, tried: Tried) -> Case {
     match tried {
         Tried::Ended => case.tell(&[ENDED]),
         Tried::BadHeader => case.tell(&[BAD_HEADER]),
-        Tried::BadType(header_type) => case.tell(&[BAD_TYPE, header_type as u64]),
+        Tried::BadType(header_type) => case.tell(&[BAD_TYPE, 0, 0, 0, header_type as u64]),
         Tried::Good(good) => {
-            let told = [DONE, 0, good.flags as u64, 0, good.declared as u64, good.size as u64];
+            let told = [DONE, good.declared as u64, good.size as u64, good.flags as u64];
             Case { written: good.header.to_bytes(), ..case.tell(&told) }
         }
     }
@@ -65,23 +66,28 @@ pub fn listing(rules: &Rc<[u32]>, region: &Rc<[u8]>, walk: &Option<Walk>, limit:
     let Some(walk) = walk else {
         return case.tell(&[if region.len() > MOST_BYTES { TOO_LONG } else { BAD_RULES }]);
     };
-    let cut = cut(walk, limit, room / 8);
+    let cut = cut(walk, limit, room / span::WORDS);
     let source = if cut.answer == SPANS_FULL || cut.answer == TRIES_SPENT { Source::CutFromListing } else { Source::Rust };
-    let told = [cut.answer, cut.bad_type, cut.whole as u64, 0, cut.rows.len() as u64, cut.tries];
-    Case { source, written: table_bytes(&cut.rows), ..case.tell(&told) }
+    let told = [cut.answer, cut.rows.len() as u64, cut.tries, cut.bad_type, cut.whole as u64];
+    Case { source, written: span_bytes(&cut.rows), ..case.tell(&told) }
+}
+
+/// Rows as the bytes of a span table.
+pub fn span_bytes(rows: &[Span]) -> Vec<u8> {
+    table_bytes(&rows.iter().map(Span::numbers).collect::<Vec<_>>())
 }
 
 pub struct Cut {
     pub answer: u64,
+    pub rows: Vec<Span>,
+    pub tries: u64,
     pub bad_type: u64,
     pub whole: bool,
-    pub rows: Vec<Row>,
-    pub tries: u64,
 }
 
 /// The part of a walk that a limit of tries and a room of rows allow: the limit is tested before a try, the room after it.
 pub fn cut(walk: &Walk, limit: u64, room: usize) -> Cut {
-    let mut cut = Cut { answer: DONE, bad_type: 0, whole: false, rows: Vec::new(), tries: 0 };
+    let mut cut = Cut { answer: DONE, rows: Vec::new(), tries: 0, bad_type: 0, whole: false };
     for step in &walk.steps {
         if cut.tries == limit {
             return Cut { answer: TRIES_SPENT, ..cut };
@@ -98,7 +104,7 @@ pub fn cut(walk: &Walk, limit: u64, room: usize) -> Cut {
         Outcome::BadHeader => Cut { answer: BAD_HEADER, ..cut },
         Outcome::BadType(header_type) => Cut { answer: BAD_TYPE, bad_type: header_type as u64, ..cut },
         Outcome::Empty => Cut { answer: EMPTY_REGION, ..cut },
-        Outcome::Records => Cut { whole: cut.rows.iter().all(|row| row[3] == row[4]), ..cut },
+        Outcome::Records => Cut { whole: cut.rows.iter().all(|row| row.held == row.declared), ..cut },
     }
 }
 

@@ -1,20 +1,13 @@
 // How either form of the Rust is asked. rust.rs includes this text once for each form, which it calls `form`.
 
-use crate::header::Header as Fields;
-use crate::told::{Container, Good, NO_PARENT, Outcome, Row, Tried, Walk};
+use crate::span::NO_PARENT;
+use crate::told::{Container, Good, Outcome, Tried, Walk};
 use form::Error;
 use form::cper::Cper;
-use form::errata::Errata;
-use form::header::{Header, HeaderType, Version};
+use form::header::Version;
 use form::region::Region;
 
-/// Document 01's flag number of errata.
-pub fn flags_of(errata: &Errata) -> u32 {
-    errata.type0_legacy_server as u32
-        | (errata.type0_legacy_gpu as u32) << 1
-        | (errata.type0_legacy_server_box as u32) << 2
-        | (errata.core_record_size_bytes as u32) << 3
-}
+include!("fields.rs");
 
 /// The flags of a version word that is not an end.
 pub fn flags_of_word(word: u32) -> u32 {
@@ -41,77 +34,6 @@ pub fn header(bytes: &[u8]) -> Tried {
         Err(Error::InvalidHeader) => Tried::BadHeader,
         Err(Error::InvalidHeaderType(header_type)) => Tried::BadType(header_type),
         Err(error) => panic!("no header gives this: {error}"),
-    }
-}
-
-fn fields(header: &Header) -> Fields {
-    let mut to = Fields {
-        revision: header.version.revision,
-        product_id: header.version.product_id,
-        header_type: header.version.header_type,
-        record_size: header.size.record_size,
-        extended_record_size: header.size.extended_record_size,
-        record_type: header.version.record_type,
-        cldic: header.version.cldic as u8,
-        consumed: header.version.consumed as u8,
-        ..Fields::ZERO
-    };
-    type_fields(&header.header_type, &mut to);
-    to
-}
-
-/// Sets the named fields from variables of the same names.
-macro_rules! set {
-    ($to:ident, $layout:expr, $($field:ident),*) => {{
-        $to.layout = $layout;
-        $($to.$field = (*$field).into();)*
-    }};
-}
-
-fn type_fields(from: &HeaderType, to: &mut Fields) {
-    use crate::header::{LEGACY_GPU, LEGACY_SERVER};
-    use HeaderType::*;
-    match from {
-        Type0 => to.layout = 0,
-        Type1 => to.layout = 1,
-        Type2 { timestamp, agent_version, reason } => set!(to, 2, timestamp, agent_version, reason),
-        Type3 { timestamp, agent_version, reason, completion_status, collection_complete } => {
-            set!(to, 3, timestamp, agent_version, reason, completion_status, collection_complete)
-        }
-        Type4 { timestamp, agent_version, reason, whoami, misc } => {
-            set!(to, 4, timestamp, agent_version, reason, whoami, misc)
-        }
-        Type5 { timestamp, agent_version, reason, completion_status, collection_complete, error_status } => {
-            set!(to, 5, timestamp, agent_version, reason, completion_status, collection_complete, error_status)
-        }
-        Type6 {
-            timestamp,
-            agent_version,
-            reason,
-            die_id,
-            socket_id,
-            completion_status_size,
-            completion_status: statuses,
-            collection_complete,
-        } => {
-            set!(to, 6, timestamp, agent_version, reason, die_id, socket_id, completion_status_size, collection_complete);
-            to.completion_statuses[..statuses.len()].copy_from_slice(statuses);
-        }
-        Type0LegacyServer {
-            timestamp,
-            agent_version,
-            reason,
-            die_id,
-            socket_id,
-            completion_status,
-            collection_complete,
-        } => {
-            set!(to, LEGACY_SERVER, timestamp, agent_version, reason, die_id, socket_id);
-            set!(to, LEGACY_SERVER, completion_status, collection_complete)
-        }
-        Type0LegacyGpu { timestamp, agent_version, reason, completion_status, collection_complete } => {
-            set!(to, LEGACY_GPU, timestamp, agent_version, reason, completion_status, collection_complete)
-        }
     }
 }
 
@@ -159,7 +81,7 @@ fn follow(region: &Region, tries: &[Attempt], level: u32, parent: u32, walk: &mu
         }
         let record = records.next().unwrap();
         let row = walk.rows;
-        walk.steps.push(Some(span(&record.header, record.data.len(), attempt.offset, level, parent)));
+        walk.steps.push(Some(span(&record.header, level, parent, attempt.offset, record.data.len())));
         walk.rows += 1;
 
         let held = record.data.as_ptr_range();
@@ -175,12 +97,6 @@ fn follow(region: &Region, tries: &[Attempt], level: u32, parent: u32, walk: &mu
         }
     }
     assert!(records.next().is_none() && children.next().is_none() && below.next().is_none());
-}
-
-fn span(header: &Header, held: usize, offset: usize, level: u32, parent: u32) -> Row {
-    let flags = flags_of(&header.version.errata());
-    let (declared, size) = (header.record_size() as u32, header.header_size() as u32);
-    [level, parent, offset as u32, held as u32, declared, size, header.version.as_u32(), flags]
 }
 
 /// Reads a CPER and writes its normal form.

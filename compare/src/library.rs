@@ -2,8 +2,9 @@
 
 use crate::case::{Case, hex};
 use crate::replay;
+use crate::x86;
 use std::io::{self, BufReader, Read, Write};
-use std::process::{Child, ChildStdin, ChildStdout, Command, Stdio};
+use std::process::{Child, ChildStdin, ChildStdout, Stdio};
 
 pub struct Library {
     program: String,
@@ -18,12 +19,14 @@ pub struct Reply {
     /// The first byte that was changed past those that may be.
     changed: Option<i64>,
     input_changed: bool,
+    /// A number beside those that the call tells was changed.
+    beside_changed: bool,
     pub written: Vec<u8>,
 }
 
 impl Library {
     pub fn start(program: &str) -> io::Result<Library> {
-        let mut child = Command::new(program).stdin(Stdio::piped()).stdout(Stdio::piped()).spawn()?;
+        let mut child = x86::run(program).stdin(Stdio::piped()).stdout(Stdio::piped()).spawn()?;
         let requests = child.stdin.take().expect("it is a pipe");
         let answers = BufReader::new(child.stdout.take().expect("it is a pipe"));
         Ok(Library { program: program.to_string(), child, requests, answers })
@@ -55,7 +58,8 @@ impl Library {
         Ok(Reply {
             told: std::array::from_fn(|at| numbers[at]),
             changed: (changed != i64::MIN).then_some(changed),
-            input_changed: numbers[7] != 0,
+            input_changed: numbers[7] & 1 != 0,
+            beside_changed: numbers[7] & 2 != 0,
             written,
         })
     }
@@ -99,6 +103,9 @@ fn judge(case: &Case, reply: &Reply) -> Result<(), String> {
     }
     if reply.input_changed {
         return Err("it changes the input".to_string());
+    }
+    if reply.beside_changed {
+        return Err("it changes a number beside those that it tells".to_string());
     }
     Ok(())
 }

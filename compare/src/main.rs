@@ -13,10 +13,12 @@ mod random;
 mod replay;
 mod rust;
 mod smallest;
+mod span;
 mod tally;
 mod text;
 mod told;
 mod vectors;
+mod x86;
 
 use dump::Dump;
 use kinds::published::Published;

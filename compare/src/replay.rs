@@ -8,7 +8,7 @@
 //!     24  u32      length of the input
 //!     28  u32      bytes of the input that are stored: the input is these, again and again
 //!     32  u32      bytes that the call leaves at the start of the lent buffer
-//!     36  6 x u64  what the call tells
+//!     36  6 x u64  what the call tells: its answer, then the numbers of its struct in order, then zeros
 //!     84  the rules, the stored input, the bytes left
 
 use crate::case::Case;

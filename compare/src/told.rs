@@ -1,6 +1,7 @@
 //! What the Rust tells, as plain data that both forms share.
 
 use crate::header::Header;
+use crate::span::Span;
 
 /// What one try of a header gave.
 pub enum Tried {
@@ -17,11 +18,6 @@ pub struct Good {
     pub size: usize,
 }
 
-/// A span row: level, parent row, offset, held, declared, header size, version word, flags.
-pub type Row = [u32; 8];
-
-pub const NO_PARENT: u32 = u32::MAX;
-
 /// How the walk of the top region came out.
 #[derive(Clone, Copy, Debug, PartialEq, Eq)]
 pub enum Outcome {
@@ -33,7 +29,7 @@ pub enum Outcome {
 
 /// The whole walk of a region: one step for each try, in document 01's order, with the row that it found.
 pub struct Walk {
-    pub steps: Vec<Option<Row>>,
+    pub steps: Vec<Option<Span>>,
     pub rows: u32,
     pub outcome: Outcome,
 }

@@ -4,6 +4,7 @@ use crate::expected::{self, MOST_BYTES};
 use crate::inputs::words::{self, BOX, ECORE, PCORE};
 use crate::inputs::{damage, regions, rule_tables};
 use crate::random::Random;
+use crate::span;
 use crate::tally::Tally;
 use crate::told::Walk;
 use std::rc::Rc;
@@ -17,7 +18,7 @@ fn check(tally: &mut Tally, kind: &'static str, rules: &[u32], region: &[u8]) ->
     let (rules, region): (Rc<[u32]>, Rc<[u8]>) = (Rc::from(rules), Rc::from(region));
     let walk = expected::walk(&rules, &region);
     let (tries, rows) = counts(&walk);
-    tally.check(kind, expected::listing(&rules, &region, &walk, tries, 8 * (rows + 1)));
+    tally.check(kind, expected::listing(&rules, &region, &walk, tries, span::WORDS * (rows + 1)));
     (rules, region, walk)
 }
 
@@ -31,12 +32,13 @@ fn check_cuts(tally: &mut Tally, rules: &[u32], region: &[u8]) {
     let (tries, rows) = counts(&walk);
     for limit in around(tries).into_iter().chain([u64::MAX]) {
         for room in around(rows as u64) {
-            let part = (room + limit) % 8;
-            tally.check(CUT, expected::listing(&rules, &region, &walk, limit, (8 * room + part) as usize));
+            let part = (room + limit) as usize % span::WORDS;
+            let numbers = span::WORDS * room as usize + part;
+            tally.check(CUT, expected::listing(&rules, &region, &walk, limit, numbers));
         }
     }
     if rows > 0 {
-        tally.check(CUT, expected::listing(&rules, &region, &walk, tries, 8 * rows - 1));
+        tally.check(CUT, expected::listing(&rules, &region, &walk, tries, span::WORDS * rows - 1));
     }
 }
 
@@ -115,7 +117,7 @@ fn long(tally: &mut Tally) {
             for (limit, room) in
                 [(tries.saturating_sub(1), rows), (tries, rows.saturating_sub(1)), (1000, 2000), (2000, 500)]
             {
-                tally.check(LONG, expected::listing(&rules, &region, &walk, limit, 8 * room));
+                tally.check(LONG, expected::listing(&rules, &region, &walk, limit, span::WORDS * room));
             }
         }
     }

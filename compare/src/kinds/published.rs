@@ -8,6 +8,7 @@ use crate::inputs::{cpers, damage, regions};
 use crate::library::Library;
 use crate::random::Random;
 use crate::rust::published;
+use crate::span;
 use crate::tally::Tally;
 use crate::told::Container;
 use std::rc::Rc;
@@ -71,7 +72,7 @@ impl Published {
     fn listing(&self, tally: &mut Tally, region: &Rc<[u8]>) {
         let walk = published::walk(region);
         let (tries, rows) = (walk.steps.len() as u64, walk.rows as usize);
-        tally.check(LISTINGS, expected::listing(&self.rules, region, &Some(walk), tries, 8 * (rows + 1)));
+        tally.check(LISTINGS, expected::listing(&self.rules, region, &Some(walk), tries, span::WORDS * (rows + 1)));
     }
 
     /// Where no difference is predicted the library must agree with the published form, else the two must differ as predicted.

@@ -8,6 +8,7 @@ use crate::inputs::{cpers, regions, rule_tables, words};
 use crate::kinds::containers;
 use crate::kinds::encodes::{FIELDS, decoded, ended, with_field};
 use crate::random::Random;
+use crate::span;
 use crate::vectors::worked::DUMP_INPUT;
 use std::rc::Rc;
 
@@ -76,12 +77,12 @@ fn rule_bounds(cases: &mut Vec<Case>) {
         for bytes in [&DUMP_INPUT[..], &DUMP_INPUT[..3], &[]] {
             let bytes = Rc::from(bytes);
             cases.push(expected::header(&rules, &bytes));
-            cases.push(expected::listing(&rules, &bytes, &expected::walk(&rules, &bytes), 10, 80));
+            cases.push(expected::listing(&rules, &bytes, &expected::walk(&rules, &bytes), 10, 10 * span::WORDS));
         }
         cases.push(encoder::case(&rules, &header, 40, Source::Paper));
         cases.push(encoder::case(&rules, &legacy, 40, Source::Paper));
         let long: Rc<[u8]> = Rc::from(regions::repeated(&DUMP_INPUT, 1_048_577));
-        cases.push(expected::listing(&rules, &long, &None, 10, 80));
+        cases.push(expected::listing(&rules, &long, &None, 10, 10 * span::WORDS));
     }
 }
 
@@ -130,18 +131,18 @@ fn cuts(cases: &mut Vec<Case>, rules: &[u32], region: &[u8]) {
     let walk = expected::walk(&rules, &region);
     let (tries, rows) = walk.as_ref().map_or((0, 0), |walk| (walk.steps.len() as u64, walk.rows as usize));
     for limit in 0..=tries + 1 {
-        cases.push(expected::listing(&rules, &region, &walk, limit, 8 * rows));
+        cases.push(expected::listing(&rules, &region, &walk, limit, span::WORDS * rows));
     }
     for room in 0..=rows {
-        cases.push(expected::listing(&rules, &region, &walk, u64::MAX, 8 * room + 7));
-        cases.push(expected::listing(&rules, &region, &walk, room as u64 + 1, 8 * room));
+        cases.push(expected::listing(&rules, &region, &walk, u64::MAX, span::WORDS * (room + 1) - 1));
+        cases.push(expected::listing(&rules, &region, &walk, room as u64 + 1, span::WORDS * room));
     }
 }
 
 fn whole(cases: &mut Vec<Case>, rules: &[u32], region: &[u8]) {
     let (rules, region): (Rc<[u32]>, Rc<[u8]>) = (Rc::from(rules), Rc::from(region));
     let walk = expected::walk(&rules, &region);
-    cases.push(expected::listing(&rules, &region, &walk, 1000, 400));
+    cases.push(expected::listing(&rules, &region, &walk, 1000, 50 * span::WORDS));
 }
 
 /// Levels 0 to 5 and more, declared sizes 0, below the header, equal to it and past the end, at the top and in a Box; cuts.
@@ -174,10 +175,10 @@ fn long_listings(cases: &mut Vec<Case>) {
     for length in [1_048_575, 1_048_576, 1_048_577] {
         let small = regions::small_record(3, 8);
         let large = regions::small_record(words::BOX, 4 * 0x1_fffe);
-        for (unit, limit, room) in [(&small, 20, 80), (&small, 100, 40), (&large, 1000, 400), (&large, 5, 400)] {
+        for (unit, limit, rows) in [(&small, 20, 10), (&small, 100, 5), (&large, 1000, 50), (&large, 5, 50)] {
             let region: Rc<[u8]> = Rc::from(regions::repeated(unit, length));
             let walk = expected::walk(&[], &region);
-            cases.push(expected::listing(&Rc::from([]), &region, &walk, limit, room));
+            cases.push(expected::listing(&Rc::from([]), &region, &walk, limit, rows * span::WORDS));
         }
     }
 }

@@ -7,6 +7,7 @@ use crate::inputs::{cpers, damage, regions, rule_tables};
 use crate::kinds::containers;
 use crate::kinds::encodes::{FIELDS, decoded, with_field};
 use crate::random::Random;
+use crate::span;
 use std::rc::Rc;
 
 const SEED: u64 = 20_251_028;
@@ -37,8 +38,8 @@ fn region(random: &mut Random, cases: &mut Vec<Case>) {
         let region: Rc<[u8]> = Rc::from(region);
         let walk = expected::walk(&rules, &region);
         let (tries, rows) = walk.as_ref().map_or((0, 0), |walk| (walk.steps.len(), walk.rows as usize));
-        cases.push(expected::listing(&rules, &region, &walk, tries as u64, 8 * rows));
-        let (limit, room) = (random.below(tries + 2), random.below(8 * rows + 9));
+        cases.push(expected::listing(&rules, &region, &walk, tries as u64, span::WORDS * rows));
+        let (limit, room) = (random.below(tries + 2), random.below(span::WORDS * (rows + 1) + 1));
         cases.push(expected::listing(&rules, &region, &walk, limit as u64, room));
         if rules.is_empty() {
             cases.push(expected::text(&region));

@@ -1,10 +1,10 @@
 //! Document 01's worked examples, written out by hand from the paper. What the Rust says must be the same.
 
-use crate::case::{Call, Case, Source, table_bytes};
+use crate::case::{Call, Case, Source};
 use crate::expected;
 use crate::header::{Header, LEGACY_SERVER};
 use crate::kinds::containers;
-use crate::told::{NO_PARENT, Row};
+use crate::span::{self, NO_PARENT, Span};
 use std::rc::Rc;
 
 /// P12's input.
@@ -21,12 +21,18 @@ pub fn list() -> Vec<Case> {
     [single_regions(), boxes(), dies_and_counts(), dump_input(), texts(), long_regions(), containers()].concat()
 }
 
-/// A listing: answer, bad type, whole, tries, rows.
-fn listing(region: &[u8], limit: u64, room: usize, told: (u64, u64, u64, u64), rows: &[Row]) -> Case {
-    let (answer, bad_type, whole, tries) = told;
-    let region: Rc<[u8]> = Rc::from(region);
+/// A row of a record with a header of 8 bytes and no flags.
+fn row(level: u32, parent: u32, offset: u32, held: u32, declared: u32, version: u32) -> Span {
+    Span { level, parent, offset, held, declared, header_size: 8, version, flags: 0 }
+}
+
+/// A listing with room for so many rows: it tells an answer, tries, a bad type and whole, and writes rows.
+fn listing(region: &[u8], limit: u64, room: usize, told: (u64, u64, u64, u64), rows: &[Span]) -> Case {
+    let (answer, tries, bad_type, whole) = told;
+    let (region, room): (Rc<[u8]>, usize) = (Rc::from(region), room * span::WORDS);
     let case = Case { number: limit, room, ..Case::new(Call::Listings, Source::Paper, &region) };
-    let case = Case { written: table_bytes(rows), ..case.tell(&[answer, bad_type, whole, 0, rows.len() as u64, tries]) };
+    let told = [answer, rows.len() as u64, tries, bad_type, whole];
+    let case = Case { written: expected::span_bytes(rows), ..case.tell(&told) };
     let walk = expected::walk(&[], &region);
     agrees(case, expected::listing(&Rc::from([]), &region, &walk, limit, room))
 }
@@ -39,29 +45,29 @@ fn agrees(paper: Case, rust: Case) -> Case {
 
 /// P1 to P7.
 fn single_regions() -> Vec<Case> {
-    let row = [0, NO_PARENT, 0, 8, 8, 8, 0x0312_3101, 0];
+    let only = row(0, NO_PARENT, 0, 8, 8, 0x0312_3101);
     vec![
-        listing(&[], AMPLE, 80, (5, 0, 0, 0), &[]),
-        listing(&[0x01, 0x31, 0x12], AMPLE, 80, (5, 0, 0, 1), &[]),
-        listing(&[0xef, 0xbe, 0xad, 0xde], AMPLE, 80, (5, 0, 0, 1), &[]),
-        listing(&[0x01, 0x31, 0x12, 0x03, 0x02], AMPLE, 80, (3, 0, 0, 1), &[]),
-        listing(&P5, AMPLE, 80, (4, 7, 0, 1), &[]),
-        listing(&[0x01, 0x31, 0x12, 0x03, 0, 0, 0, 0], AMPLE, 80, (5, 0, 0, 1), &[]),
-        listing(&[P7_FIRST, P5].concat(), AMPLE, 80, (0, 0, 1, 2), &[row]),
+        listing(&[], AMPLE, 10, (5, 0, 0, 0), &[]),
+        listing(&[0x01, 0x31, 0x12], AMPLE, 10, (5, 1, 0, 0), &[]),
+        listing(&[0xef, 0xbe, 0xad, 0xde], AMPLE, 10, (5, 1, 0, 0), &[]),
+        listing(&[0x01, 0x31, 0x12, 0x03, 0x02], AMPLE, 10, (3, 1, 0, 0), &[]),
+        listing(&P5, AMPLE, 10, (4, 1, 7, 0), &[]),
+        listing(&[0x01, 0x31, 0x12, 0x03, 0, 0, 0, 0], AMPLE, 10, (5, 1, 0, 0), &[]),
+        listing(&[P7_FIRST, P5].concat(), AMPLE, 10, (0, 2, 0, 1), &[only]),
     ]
 }
 
 /// P10: six Boxes of 48, 40, 32, 24, 16, 8 bytes, each the payload of the last.
 fn boxes() -> Vec<Case> {
     let region: Vec<u8> = [12, 10, 8, 6, 4, 2].iter().flat_map(|words| [0x01, 0x31, 0x12, 0x3d, *words, 0, 0, 0]).collect();
-    let rows: [Row; 5] = [
-        [0, NO_PARENT, 0, 48, 48, 8, 0x3d12_3101, 0],
-        [1, 0, 8, 40, 40, 8, 0x3d12_3101, 0],
-        [2, 1, 16, 32, 32, 8, 0x3d12_3101, 0],
-        [3, 2, 24, 24, 24, 8, 0x3d12_3101, 0],
-        [4, 3, 32, 16, 16, 8, 0x3d12_3101, 0],
+    let rows: [Span; 5] = [
+        row(0, NO_PARENT, 0, 48, 48, 0x3d12_3101),
+        row(1, 0, 8, 40, 40, 0x3d12_3101),
+        row(2, 1, 16, 32, 32, 0x3d12_3101),
+        row(3, 2, 24, 24, 24, 0x3d12_3101),
+        row(4, 3, 32, 16, 16, 0x3d12_3101),
     ];
-    vec![listing(&region, AMPLE, 80, (0, 0, 1, 5), &rows)]
+    vec![listing(&region, AMPLE, 10, (0, 5, 0, 1), &rows)]
 }
 
 /// P8 and P9.
@@ -78,7 +84,7 @@ fn dies_and_counts() -> Vec<Case> {
             die_id,
             ..Header::ZERO
         };
-        cases.push(decoded(&[0, 0, 1], bytes, header, [0, 0, 1, 0, 0, 32]));
+        cases.push(decoded(&[0, 0, 1], bytes, header, [0, 0, 32, 1]));
     }
     for (halfword, completion_status_size, size) in [(0xffff_u16, 127, 536), (0xff80, 0, 28)] {
         let mut bytes = vec![0x01, 0x36, 0x12, 0x03];
@@ -94,28 +100,29 @@ fn dies_and_counts() -> Vec<Case> {
             collection_complete: 1,
             ..Header::ZERO
         };
-        cases.push(decoded(&[], bytes, header, [0, 0, 0, 0, 0, size]));
+        cases.push(decoded(&[], bytes, header, [0, 0, size, 0]));
     }
     cases
 }
 
-fn decoded(rules: &[u32], bytes: Vec<u8>, header: Header, told: [u64; 6]) -> Case {
+/// A header: it tells an answer, the bytes declared, the header's size and flags.
+fn decoded(rules: &[u32], bytes: Vec<u8>, header: Header, told: [u64; 4]) -> Case {
     let (rules, bytes): (Rc<[u32]>, Rc<[u8]>) = (Rc::from(rules), Rc::from(bytes));
-    let case = Case { rules: rules.clone(), told, ..Case::new(Call::Headers, Source::Paper, &bytes) };
+    let case = Case { rules: rules.clone(), ..Case::new(Call::Headers, Source::Paper, &bytes).tell(&told) };
     agrees(Case { written: header.to_bytes(), ..case }, expected::header(&rules, &bytes))
 }
 
 /// P11 and P12.
 fn dump_input() -> Vec<Case> {
-    let rows: [Row; 3] = [
-        [0, NO_PARENT, 0, 20, 20, 8, 0x3d12_3101, 0],
-        [1, 0, 8, 8, 8, 8, 0x0312_3101, 0],
-        [0, NO_PARENT, 20, 8, 16, 8, 0x3e12_3101, 0],
+    let rows: [Span; 3] = [
+        row(0, NO_PARENT, 0, 20, 20, 0x3d12_3101),
+        row(1, 0, 8, 8, 8, 0x0312_3101),
+        row(0, NO_PARENT, 20, 8, 16, 0x3e12_3101),
     ];
     vec![
-        listing(&DUMP_INPUT, AMPLE, 80, (0, 0, 0, 4), &rows),
-        listing(&DUMP_INPUT, 2, 80, (7, 0, 0, 2), &rows[..2]),
-        listing(&DUMP_INPUT, AMPLE, 8, (6, 0, 0, 2), &rows[..1]),
+        listing(&DUMP_INPUT, AMPLE, 10, (0, 4, 0, 0), &rows),
+        listing(&DUMP_INPUT, 2, 10, (7, 2, 0, 0), &rows[..2]),
+        listing(&DUMP_INPUT, AMPLE, 1, (6, 2, 0, 0), &rows[..1]),
     ]
 }
 
@@ -143,12 +150,12 @@ fn texts() -> Vec<Case> {
 /// A region of 1,048,576 bytes is walked, one of 1,048,577 is too long. Each record declares 524,280 bytes.
 fn long_regions() -> Vec<Case> {
     let long = |length| crate::inputs::regions::repeated(&[0x01, 0x31, 0x12, 0x03, 0xff, 0xff, 0xff, 0xff], length);
-    let rows: [Row; 3] = [
-        [0, NO_PARENT, 0, 524_280, 524_280, 8, 0x0312_3101, 0],
-        [0, NO_PARENT, 524_280, 524_280, 524_280, 8, 0x0312_3101, 0],
-        [0, NO_PARENT, 1_048_560, 16, 524_280, 8, 0x0312_3101, 0],
+    let rows: [Span; 3] = [
+        row(0, NO_PARENT, 0, 524_280, 524_280, 0x0312_3101),
+        row(0, NO_PARENT, 524_280, 524_280, 524_280, 0x0312_3101),
+        row(0, NO_PARENT, 1_048_560, 16, 524_280, 0x0312_3101),
     ];
-    vec![listing(&long(1_048_576), AMPLE, 80, (0, 0, 0, 3), &rows), listing(&long(1_048_577), AMPLE, 80, (1, 0, 0, 0), &[])]
+    vec![listing(&long(1_048_576), AMPLE, 10, (0, 3, 0, 0), &rows), listing(&long(1_048_577), AMPLE, 10, (1, 0, 0, 0), &[])]
 }
 
 /// 127 bytes are no CPER; severity 4 is written as 3. The record header is the paper's table, field by field.

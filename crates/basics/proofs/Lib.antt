@@ -1,2 +1,4 @@
 pub mod Bools
+pub mod Orders
 pub mod Parts
+pub mod Unique

@@ -1,80 +1,90 @@
 -- A header in C's flat form (document 01, 'Record header'): each field of the version, the sizes and the status words as it is,
 -- and of the others those that the layout has, with zeros for the rest.
 use Prim.Native.Nat.{ℕ}
-use mathlib.Core.Bool.{Bool, true, false, not, _&&_, _||_}
+use mathlib.Core.Bool.{Bool, false, not, _&&_, _||_}
 use mathlib.Core.List.{List, [], _∷_}
 use lib.Dec.{eqb, leb, ltb}
 use lib.ListN.{getD}
+use Rattle.header_judge.specs.Version.{bit}
+use Rattle.header.specs.Layouts.{stamp}
 use Rattle.header.specs.declared.Header.{Header}
+use Rattle.header.specs.declared.Stamp.{Stamp}
+use Rattle.header.specs.declared.Status.{Status}
 use Rattle.header.specs.declared.HeaderType.{HeaderType}
 use Rattle.header.specs.declared.HeaderType.the-variants.{Type0, Type1, Type2, Type3, Type4, Type5, Type6, Type0LegacyServer, Type0LegacyGpu}
 use Rattle.c_header.specs.declared.CHeader.{CHeader}
+use Rattle.c_header.specs.declared.Extras.{Extras}
 use Rattle.c_header.specs.declared.Fields.{Fields}
 use Rattle.c_header.specs.declared.Taken.{Taken}
 
--- yes is 1, no is 0
-abbrev pub yesNo : Bool → ℕ
-yesNo true = 1
-yesNo false = 0
-
+-- yes is 1
 abbrev pub yes : ℕ → Bool
 yes n = eqb n 1
 
 -- ---- out: a header for C
 
-abbrev pub fieldsWith : ℕ → ℕ → ℕ → ℕ → ℕ → Bool → ℕ → ℕ → ℕ → ℕ → ℕ → ℕ → Fields
-fieldsWith layout t a r s c e w m d k n =
-    record {
-      layout = layout;
-      timestamp = t;
-      «agent_version» = a;
-      reason = r;
-      «completion_status» = s;
-      «collection_complete» = c;
-      «error_status» = e;
-      whoami = w;
-      misc = m;
-      «die_id» = d;
-      «socket_id» = k;
-      «completion_status_size» = n;
-    }
+abbrev pub noStamp : Stamp
+noStamp = stamp 0 0 0
 
--- the layout's number, and its fields: timestamp, agent version, reason; status, complete; error status; whoami, misc; die, socket; count
+-- complete, beside a status of 0
+abbrev pub onlyComplete : Bool → Status
+onlyComplete c = record { «completion_status» = 0; «collection_complete» = c }
+
+-- what only one layout or two have: an error status; whoami and misc; die, socket and a count
+abbrev pub errorExtras : ℕ → Extras
+errorExtras e = record { «error_status» = e; whoami = 0; misc = 0; «die_id» = 0; «socket_id» = 0; «completion_status_size» = 0 }
+
+abbrev pub whoExtras : ℕ → ℕ → Extras
+whoExtras w m = record { «error_status» = 0; whoami = w; misc = m; «die_id» = 0; «socket_id» = 0; «completion_status_size» = 0 }
+
+abbrev pub socketExtras : ℕ → ℕ → ℕ → Extras
+socketExtras d k n = record { «error_status» = 0; whoami = 0; misc = 0; «die_id» = d; «socket_id» = k; «completion_status_size» = n }
+
+abbrev pub noStatus : Status
+noStatus = onlyComplete false
+
+abbrev pub noExtras : Extras
+noExtras = errorExtras 0
+
+abbrev pub fieldsWith : ℕ → Stamp → Status → Extras → Fields
+fieldsWith layout p s x = record { layout = layout; stamp = p; status = s; extras = x }
+
+-- the layout's number, and its fields
 abbrev pub fieldsOf : HeaderType → Fields
-fieldsOf Type0 = fieldsWith 0 0 0 0 0 false 0 0 0 0 0 0
-fieldsOf Type1 = fieldsWith 1 0 0 0 0 false 0 0 0 0 0 0
-fieldsOf (Type2 t a r) = fieldsWith 2 t a r 0 false 0 0 0 0 0 0
-fieldsOf (Type3 t a r s c) = fieldsWith 3 t a r s c 0 0 0 0 0 0
-fieldsOf (Type4 t a r w m) = fieldsWith 4 t a r 0 false 0 w m 0 0 0
-fieldsOf (Type5 t a r s c e) = fieldsWith 5 t a r s c e 0 0 0 0 0
-fieldsOf (Type6 t a r d k n c) = fieldsWith 6 t a r 0 c 0 0 0 d k n
-fieldsOf (Type0LegacyServer t a r d k s c) = fieldsWith 7 t a r s c 0 0 0 d k 0
-fieldsOf (Type0LegacyGpu t a r s c) = fieldsWith 8 t a r s c 0 0 0 0 0 0
+fieldsOf Type0 = fieldsWith 0 noStamp noStatus noExtras
+fieldsOf Type1 = fieldsWith 1 noStamp noStatus noExtras
+fieldsOf (Type2 p) = fieldsWith 2 p noStatus noExtras
+fieldsOf (Type3 p s) = fieldsWith 3 p s noExtras
+fieldsOf (Type4 p w m) = fieldsWith 4 p noStatus (whoExtras w m)
+fieldsOf (Type5 p s e) = fieldsWith 5 p s (errorExtras e)
+fieldsOf (Type6 p d k n c) = fieldsWith 6 p (onlyComplete c) (socketExtras d k n)
+fieldsOf (Type0LegacyServer p d k s) = fieldsWith 7 p s (socketExtras d k 0)
+fieldsOf (Type0LegacyGpu p s) = fieldsWith 8 p s noExtras
 
 -- the flat form of a header with these fields
 abbrev pub flat : Header → Fields → CHeader
 flat h f =
     record {
-      timestamp = f .timestamp;
+      timestamp = f .stamp .timestamp;
       revision = h .version .revision;
       «product_id» = h .version .«product_id»;
-      «agent_version» = f .«agent_version»;
-      reason = f .reason;
-      «completion_status» = f .«completion_status»;
-      «error_status» = f .«error_status»;
-      whoami = f .whoami;
-      misc = f .misc;
+      «agent_version» = f .stamp .«agent_version»;
+      reason = f .stamp .reason;
+      «completion_status» = f .status .«completion_status»;
+      «error_status» = f .extras .«error_status»;
+      whoami = f .extras .whoami;
+      misc = f .extras .misc;
       «header_type» = h .version .«header_type»;
       «record_size» = h .size .«record_size»;
       «extended_record_size» = h .size .«extended_record_size»;
-      «completion_status_size» = f .«completion_status_size»;
+      «completion_status_size» = f .extras .«completion_status_size»;
       «record_type» = h .version .«record_type»;
-      cldic = yesNo (h .version .cldic);
-      consumed = yesNo (h .version .consumed);
+      cldic = bit (h .version .cldic);
+      consumed = bit (h .version .consumed);
       layout = f .layout;
-      «die_id» = f .«die_id»;
-      «socket_id» = f .«socket_id»;
-      «collection_complete» = yesNo (f .«collection_complete»);
+      «die_id» = f .extras .«die_id»;
+      «socket_id» = f .extras .«socket_id»;
+      «collection_complete» = bit (f .status .«collection_complete»);
       reserved = 0;
       «completion_statuses» = h .«completion_statuses»;
     }
@@ -96,36 +106,36 @@ sound c =
 
 abbrev pub fieldsIn : CHeader → Fields
 fieldsIn c =
-    fieldsWith
-    (c .layout)
-    (c .timestamp)
-    (c .«agent_version»)
-    (c .reason)
-    (c .«completion_status»)
-    (yes (c .«collection_complete»))
-    (c .«error_status»)
-    (c .whoami)
-    (c .misc)
-    (c .«die_id»)
-    (c .«socket_id»)
-    (c .«completion_status_size»)
+    record {
+      layout = c .layout;
+      stamp = stamp (c .timestamp) (c .«agent_version») (c .reason);
+      status = record { «completion_status» = c .«completion_status»; «collection_complete» = yes (c .«collection_complete») };
+      extras = record {
+        «error_status» = c .«error_status»;
+        whoami = c .whoami;
+        misc = c .misc;
+        «die_id» = c .«die_id»;
+        «socket_id» = c .«socket_id»;
+        «completion_status_size» = c .«completion_status_size»;
+      };
+    }
 
 -- the layouts in the order of their numbers, with their fields
-abbrev pub typesFrom : Fields → List HeaderType
-typesFrom f =
+abbrev pub typesFrom : Stamp → Status → Extras → List HeaderType
+typesFrom p s x =
     Type0
     ∷ Type1
-    ∷ Type2 (f .timestamp) (f .«agent_version») (f .reason)
-    ∷ Type3 (f .timestamp) (f .«agent_version») (f .reason) (f .«completion_status») (f .«collection_complete»)
-    ∷ Type4 (f .timestamp) (f .«agent_version») (f .reason) (f .whoami) (f .misc)
-    ∷ Type5 (f .timestamp) (f .«agent_version») (f .reason) (f .«completion_status») (f .«collection_complete») (f .«error_status»)
-    ∷ Type6 (f .timestamp) (f .«agent_version») (f .reason) (f .«die_id») (f .«socket_id») (f .«completion_status_size») (f .«collection_complete»)
-    ∷ Type0LegacyServer (f .timestamp) (f .«agent_version») (f .reason) (f .«die_id») (f .«socket_id») (f .«completion_status») (f .«collection_complete»)
-    ∷ Type0LegacyGpu (f .timestamp) (f .«agent_version») (f .reason) (f .«completion_status») (f .«collection_complete»)
+    ∷ Type2 p
+    ∷ Type3 p s
+    ∷ Type4 p (x .whoami) (x .misc)
+    ∷ Type5 p s (x .«error_status»)
+    ∷ Type6 p (x .«die_id») (x .«socket_id») (x .«completion_status_size») (s .«collection_complete»)
+    ∷ Type0LegacyServer p (x .«die_id») (x .«socket_id») s
+    ∷ Type0LegacyGpu p s
     ∷ []
 
 abbrev pub typeOf : Fields → HeaderType
-typeOf f = getD (typesFrom f) (f .layout) Type0
+typeOf f = getD (typesFrom (f .stamp) (f .status) (f .extras)) (f .layout) Type0
 
 abbrev pub headerFrom : CHeader → HeaderType → Header
 headerFrom c t =

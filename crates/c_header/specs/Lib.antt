@@ -1,1 +1,3 @@
 pub mod Header
+pub mod Codec
+pub mod Steps

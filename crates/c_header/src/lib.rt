@@ -1,12 +1,16 @@
 // A record header as C has it: one flat struct for every layout, and the ways there and back.
 ghost use mathlib.Core.Path.{_≡_};
-ghost use mathlib.Core.Bool.{cond};
-ghost use lib.Dec.{eqb};
-ghost use Rattle.c_header.specs.Header.{yesNo, fieldsWith, fieldsOf, headerOut, hasComplete, sound, fieldsIn, typeOf, headerIn, takenOf};
-use frame::RecordSize;
-use frame::version::Version;
+ghost use Rattle.header_judge.specs.Version.{bit};
+ghost use Rattle.c_header.specs.Header.{noStamp, onlyComplete, errorExtras, whoExtras, socketExtras, fieldsWith, fieldsOf, headerOut, hasComplete, sound, fieldsIn, typeOf, takenOf};
+
+pub mod codec;
+
 use header::Header;
 use header::HeaderType;
+use header::Stamp;
+use header::Status;
+use header_judge::RecordSize;
+use header_judge::version::Version;
 
 // crashlog_header. The layout's number is the header type, 7 for the legacy server and 8 for the legacy GPU.
 #[repr(C)]
@@ -35,20 +39,22 @@ pub struct CHeader {
     pub completion_statuses: [u32; 127],
 }
 
-// A layout's number, and the fields that only some layouts have: 0, or no, where this one lacks them.
-pub struct Fields {
-    pub layout: u8,
-    pub timestamp: u64,
-    pub agent_version: u32,
-    pub reason: u32,
-    pub completion_status: u32,
-    pub collection_complete: bool,
+// What only one layout or two have.
+pub struct Extras {
     pub error_status: u32,
     pub whoami: u32,
     pub misc: u32,
     pub die_id: u8,
     pub socket_id: u8,
     pub completion_status_size: u16,
+}
+
+// A layout's number, and the fields that only some layouts have: 0, or no, where this one lacks them.
+pub struct Fields {
+    pub layout: u8,
+    pub stamp: Stamp,
+    pub status: Status,
+    pub extras: Extras,
 }
 
 // A header from C, and whether each of its values is one that C may hand in.
@@ -60,101 +66,125 @@ pub struct Taken {
 const LAST_LAYOUT: u8 = 8;
 
 pub fn yes_no(b: bool) -> u8
-    ensures { λ r. ⌜ r ≡ yesNo b ⌝ }
+    ensures { λ r. ⌜ r ≡ bit b ⌝ }
 {
     if b { 1 } else { 0 }
 }
 
-fn fields_with(
-    layout: u8,
-    timestamp: u64,
-    agent_version: u32,
-    reason: u32,
-    completion_status: u32,
-    collection_complete: bool,
-    error_status: u32,
-    whoami: u32,
-    misc: u32,
-    die_id: u8,
-    socket_id: u8,
-    completion_status_size: u16,
-) -> Fields
-    ensures { λ r. ⌜ r ≡ fieldsWith layout timestamp «agent_version» reason «completion_status» «collection_complete» «error_status» whoami misc «die_id» «socket_id» «completion_status_size» ⌝ }
+fn no_stamp() -> Stamp
+    ensures { λ r. ⌜ r ≡ noStamp ⌝ }
 {
-    Fields {
-        layout,
-        timestamp,
-        agent_version,
-        reason,
-        completion_status,
+    Stamp {
+        timestamp: 0,
+        agent_version: 0,
+        reason: 0,
+    }
+}
+
+// A status of 0.
+fn only_complete(collection_complete: bool) -> Status
+    ensures { λ r. ⌜ r ≡ onlyComplete «collection_complete» ⌝ }
+{
+    Status {
+        completion_status: 0,
         collection_complete,
+    }
+}
+
+fn error_extras(error_status: u32) -> Extras
+    ensures { λ r. ⌜ r ≡ errorExtras «error_status» ⌝ }
+{
+    Extras {
         error_status,
+        whoami: 0,
+        misc: 0,
+        die_id: 0,
+        socket_id: 0,
+        completion_status_size: 0,
+    }
+}
+
+fn who_extras(whoami: u32, misc: u32) -> Extras
+    ensures { λ r. ⌜ r ≡ whoExtras whoami misc ⌝ }
+{
+    Extras {
+        error_status: 0,
         whoami,
         misc,
+        die_id: 0,
+        socket_id: 0,
+        completion_status_size: 0,
+    }
+}
+
+fn socket_extras(die_id: u8, socket_id: u8, completion_status_size: u16) -> Extras
+    ensures { λ r. ⌜ r ≡ socketExtras «die_id» «socket_id» «completion_status_size» ⌝ }
+{
+    Extras {
+        error_status: 0,
+        whoami: 0,
+        misc: 0,
         die_id,
         socket_id,
         completion_status_size,
     }
 }
 
+// The status goes by its two fields: copied whole, it is one number of 8 bytes to the compiler, which then copies a decoded header twice.
+fn fields_with(layout: u8, stamp: Stamp, status: Status, extras: Extras) -> Fields
+    ensures { λ r. ⌜ r ≡ fieldsWith layout stamp status extras ⌝ }
+{
+    Fields {
+        layout,
+        stamp,
+        status: Status {
+            completion_status: status.completion_status,
+            collection_complete: status.collection_complete,
+        },
+        extras,
+    }
+}
+
 fn fields_of(header_type: HeaderType) -> Fields
     ensures { λ r. ⌜ r ≡ fieldsOf «header_type» ⌝ }
 {
+    let no_status = only_complete(false);
+    let no_extras = error_extras(0);
     match header_type {
-        HeaderType::Type0 => fields_with(0, 0, 0, 0, 0, false, 0, 0, 0, 0, 0, 0),
-        HeaderType::Type1 => fields_with(1, 0, 0, 0, 0, false, 0, 0, 0, 0, 0, 0),
-        HeaderType::Type2 {
-            timestamp: t,
-            agent_version: a,
-            reason: r,
-        } => fields_with(2, t, a, r, 0, false, 0, 0, 0, 0, 0, 0),
+        HeaderType::Type0 => fields_with(0, no_stamp(), no_status, no_extras),
+        HeaderType::Type1 => fields_with(1, no_stamp(), no_status, no_extras),
+        HeaderType::Type2 { stamp: p } => fields_with(2, p, no_status, no_extras),
         HeaderType::Type3 {
-            timestamp: t,
-            agent_version: a,
-            reason: r,
-            completion_status: s,
-            collection_complete: c,
-        } => fields_with(3, t, a, r, s, c, 0, 0, 0, 0, 0, 0),
+            stamp: p,
+            status: s,
+        } => fields_with(3, p, s, no_extras),
         HeaderType::Type4 {
-            timestamp: t,
-            agent_version: a,
-            reason: r,
+            stamp: p,
             whoami: w,
             misc: m,
-        } => fields_with(4, t, a, r, 0, false, 0, w, m, 0, 0, 0),
+        } => fields_with(4, p, no_status, who_extras(w, m)),
         HeaderType::Type5 {
-            timestamp: t,
-            agent_version: a,
-            reason: r,
-            completion_status: s,
-            collection_complete: c,
+            stamp: p,
+            status: s,
             error_status: e,
-        } => fields_with(5, t, a, r, s, c, e, 0, 0, 0, 0, 0),
+        } => fields_with(5, p, s, error_extras(e)),
         HeaderType::Type6 {
-            timestamp: t,
-            agent_version: a,
-            reason: r,
+            stamp: p,
             die_id: d,
             socket_id: k,
             completion_status_size: n,
             collection_complete: c,
-        } => fields_with(6, t, a, r, 0, c, 0, 0, 0, d, k, n),
+        } => fields_with(6, p, only_complete(c), socket_extras(d, k, n)),
         HeaderType::Type0LegacyServer {
-            timestamp: t,
-            agent_version: a,
-            reason: r,
+            stamp: p,
             die_id: d,
             socket_id: k,
-            completion_status: s,
-            collection_complete: c,
-        } => fields_with(7, t, a, r, s, c, 0, 0, 0, d, k, 0),
+            status: s,
+        } => fields_with(7, p, s, socket_extras(d, k, 0)),
         HeaderType::Type0LegacyGpu {
-            timestamp: t,
-            agent_version: a,
-            reason: r,
-            completion_status: s,
-            collection_complete: c,
-        } => fields_with(8, t, a, r, s, c, 0, 0, 0, 0, 0, 0),
+            stamp: p,
+            status: s,
+        } => fields_with(8, p, s, no_extras),
     }
 }
 
@@ -166,28 +196,31 @@ pub fn header_out(header: Header) -> CHeader
     let size = header.size;
     let header_type = header.header_type;
     let fields = fields_of(header_type);
+    let stamp = fields.stamp;
+    let status = fields.status;
+    let extras = fields.extras;
     let completion_statuses = header.completion_statuses;
     CHeader {
-        timestamp: fields.timestamp,
+        timestamp: stamp.timestamp,
         revision: version.revision,
         product_id: version.product_id,
-        agent_version: fields.agent_version,
-        reason: fields.reason,
-        completion_status: fields.completion_status,
-        error_status: fields.error_status,
-        whoami: fields.whoami,
-        misc: fields.misc,
+        agent_version: stamp.agent_version,
+        reason: stamp.reason,
+        completion_status: status.completion_status,
+        error_status: extras.error_status,
+        whoami: extras.whoami,
+        misc: extras.misc,
         header_type: version.header_type,
         record_size: size.record_size,
         extended_record_size: size.extended_record_size,
-        completion_status_size: fields.completion_status_size,
+        completion_status_size: extras.completion_status_size,
         record_type: version.record_type,
         cldic: yes_no(version.cldic),
         consumed: yes_no(version.consumed),
         layout: fields.layout,
-        die_id: fields.die_id,
-        socket_id: fields.socket_id,
-        collection_complete: yes_no(fields.collection_complete),
+        die_id: extras.die_id,
+        socket_id: extras.socket_id,
+        collection_complete: yes_no(status.collection_complete),
         reserved: 0,
         completion_statuses: completion_statuses,
     }
@@ -214,17 +247,23 @@ fn fields_in(c: CHeader) -> Fields
 {
     Fields {
         layout: c.layout,
-        timestamp: c.timestamp,
-        agent_version: c.agent_version,
-        reason: c.reason,
-        completion_status: c.completion_status,
-        collection_complete: c.collection_complete == 1,
-        error_status: c.error_status,
-        whoami: c.whoami,
-        misc: c.misc,
-        die_id: c.die_id,
-        socket_id: c.socket_id,
-        completion_status_size: c.completion_status_size,
+        stamp: Stamp {
+            timestamp: c.timestamp,
+            agent_version: c.agent_version,
+            reason: c.reason,
+        },
+        status: Status {
+            completion_status: c.completion_status,
+            collection_complete: c.collection_complete == 1,
+        },
+        extras: Extras {
+            error_status: c.error_status,
+            whoami: c.whoami,
+            misc: c.misc,
+            die_id: c.die_id,
+            socket_id: c.socket_id,
+            completion_status_size: c.completion_status_size,
+        },
     }
 }
 
@@ -232,61 +271,38 @@ fn type_of(f: Fields) -> HeaderType
     ensures { λ r. ⌜ r ≡ typeOf f ⌝ }
 {
     let layout = f.layout;
+    let stamp = f.stamp;
+    let status = f.status;
+    let extras = f.extras;
     match layout {
         0 => HeaderType::Type0,
         1 => HeaderType::Type1,
-        2 => HeaderType::Type2 {
-            timestamp: f.timestamp,
-            agent_version: f.agent_version,
-            reason: f.reason,
-        },
-        3 => HeaderType::Type3 {
-            timestamp: f.timestamp,
-            agent_version: f.agent_version,
-            reason: f.reason,
-            completion_status: f.completion_status,
-            collection_complete: f.collection_complete,
-        },
+        2 => HeaderType::Type2 { stamp },
+        3 => HeaderType::Type3 { stamp, status },
         4 => HeaderType::Type4 {
-            timestamp: f.timestamp,
-            agent_version: f.agent_version,
-            reason: f.reason,
-            whoami: f.whoami,
-            misc: f.misc,
+            stamp,
+            whoami: extras.whoami,
+            misc: extras.misc,
         },
         5 => HeaderType::Type5 {
-            timestamp: f.timestamp,
-            agent_version: f.agent_version,
-            reason: f.reason,
-            completion_status: f.completion_status,
-            collection_complete: f.collection_complete,
-            error_status: f.error_status,
+            stamp,
+            status,
+            error_status: extras.error_status,
         },
         6 => HeaderType::Type6 {
-            timestamp: f.timestamp,
-            agent_version: f.agent_version,
-            reason: f.reason,
-            die_id: f.die_id,
-            socket_id: f.socket_id,
-            completion_status_size: f.completion_status_size,
-            collection_complete: f.collection_complete,
+            stamp,
+            die_id: extras.die_id,
+            socket_id: extras.socket_id,
+            completion_status_size: extras.completion_status_size,
+            collection_complete: status.collection_complete,
         },
         7 => HeaderType::Type0LegacyServer {
-            timestamp: f.timestamp,
-            agent_version: f.agent_version,
-            reason: f.reason,
-            die_id: f.die_id,
-            socket_id: f.socket_id,
-            completion_status: f.completion_status,
-            collection_complete: f.collection_complete,
+            stamp,
+            die_id: extras.die_id,
+            socket_id: extras.socket_id,
+            status,
         },
-        8 => HeaderType::Type0LegacyGpu {
-            timestamp: f.timestamp,
-            agent_version: f.agent_version,
-            reason: f.reason,
-            completion_status: f.completion_status,
-            collection_complete: f.collection_complete,
-        },
+        8 => HeaderType::Type0LegacyGpu { stamp, status },
         _ => HeaderType::Type0,
     }
 }

@@ -5,8 +5,9 @@ use mathlib.Core.List.{List, _++_, append-nil, append-assoc}
 use Prim.Native.Nat.{ℕ, _+_, _-_, _≤_}
 use native.Mathlib.Omega.{arith}
 use lib.ListN.{length, take, drop, drop-of-length-le, length-drop}
-use lib.Seq.{drop-drop, take-all, take-length, length-take-le}
+use lib.Seq.{take-length, length-take-le}
 use borrow.Rule.Slice.PartMut.{putMid}
+use Rattle.basics.proofs.Parts.{put-through}
 use Rattle.cper_fields.specs.Fields.{part, over}
 
 -- a part copied over a whole array
@@ -21,19 +22,10 @@ copied-part bs field out at n h l e =
     ∙ append-nil src
     ∙ ap (λ (k : ℕ). take k (drop at bs)) count
 
--- what was written to the start of the part that starts at an offset: nothing stands after that part
-pub written-through : (out field last : List ℕ) (at n : ℕ) → at + n ≤ length out
-    → last ≡ field ++ drop n (take (length out - at) (drop at out))
+-- what was written to the start of the part that starts at an offset
+pub written-through : (out field last : List ℕ) (at n : ℕ) → last ≡ field ++ drop n (take (length out - at) (drop at out))
     → putMid at (length out - at) out last ≡ over out at n field
-written-through out field last at n h e =
-    let end : length out ≤ at + (length out - at) = omega arith in
-    let whole : length (drop at out) ≤ length out - at = omega (arith, length-drop at out) in
-    ap (λ (l : List ℕ). take at out ++ (l ++ drop (length out - at) (drop at out)))
-    (e ∙ ap (λ (l : List ℕ). field ++ drop n l) (take-all (length out - at) (drop at out) whole))
-    ∙ ap (λ (l : List ℕ). take at out ++ ((field ++ drop n (drop at out)) ++ l)) (drop-drop (length out - at) at out ∙ drop-of-length-le out end)
-    ∙ ap (λ (l : List ℕ). take at out ++ l)
-    (append-nil (field ++ drop n (drop at out)) ∙ ap (λ (l : List ℕ). field ++ l) (drop-drop n at out))
-    ∙ sym (append-assoc (take at out) field (drop (at + n) out))
+written-through out field last at n e = put-through out field last at n e ∙ sym (append-assoc (take at out) field (drop (at + n) out))
 
 -- a field of a known length
 pub field-written : (out field next : List ℕ) (at n : ℕ) → length field ≡ n → next ≡ over out at (length field) field → (next ≡ over out at n field) × (length field ≡ n)

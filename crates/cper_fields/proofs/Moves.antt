@@ -3,15 +3,14 @@
 use mathlib.Core.Path.{_≡_, sym, ap, ap₂, _∙_}
 use mathlib.Core.List.{List, _++_, append-assoc}
 use mathlib.Core.Bool.{Bool, true, false}
-use Prim.Native.Nat.{ℕ, zero, suc, _+_, _*_, _/_, _%_, _≤_, _<_}
+use Prim.Native.Nat.{ℕ, zero, _+_, _≤_, _<_}
 use native.Mathlib.Omega.{arith}
-use lib.Dec.{eqb}
 use lib.ListN.{length, getD, take, drop, length-append, replicate-append-replicate}
 use lib.Seq.{take-at, drop-drop, take-add, length-take-le}
 use Rattle.le.specs.Le.{le, put}
 use Rattle.layout.specs.Fields.{digits}
 use Rattle.layout.proofs.Digits.{digits-zero, digits-le, put-digits}
-use Rattle.cper_fields.specs.Fields.{numberIf, has, part, over, present}
+use Rattle.cper_fields.specs.Fields.{numberIf, part, over, present}
 use Rattle.cper_fields.proofs.Lists.{drop-past}
 use Rattle.cper_fields.proofs.Lengths.{length-part, length-present, present-again}
 use Rattle.cper_fields.proofs.Laid.{Laid, laid-bytes}

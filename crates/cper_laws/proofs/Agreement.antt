@@ -8,42 +8,49 @@ use native.Mathlib.Omega.{arith}
 use lib.ListN.{length, getD, drop}
 use lib.Seq.{take-all}
 use Rattle.cper_header.specs.Record.{isCper}
-use Rattle.cper_sections.specs.Answers.{done, tooLong, notCper, mostBytes}
-use Rattle.cper_sections.specs.Sections.{Section, keptOf, rowSize, rowsOf, listedIn, sectionsOf, placeIn, placeOf, partAt}
-use Rattle.cper.specs.Normal.{sizeOf, normalOf, mostOutput}
-use Rattle.cper_sections.proofs.Checked.{a-cper, header-whole}
+use Rattle.answers.specs.Numbers.{mostBytes}
+use Rattle.cper_sections.specs.Sections.{keptOf, sectionNumbers, sectionRows, unlisted, listedIn, sectionsOf, located, nowhere, placeIn, placeOf, partAt}
+use Rattle.cper_sections.specs.declared.Answer.the-variants.{Done}
+use Rattle.cper_sections.specs.declared.kept.Section.{Section}
+use Rattle.cper_sections.specs.declared.Listed.{Listed}
+use Rattle.cper_sections.specs.declared.Located.{Located}
+use Rattle.cper_normal.specs.Normal.{sizeOf, normalOf, mostOutput}
+use Rattle.cper_sections.proofs.Checked.{header-whole, a-cper}
 use Rattle.cper_laws.specs.Again.{bodyList}
 use Rattle.cper_laws.proofs.KeptAgain.{normal-is-cper, same-bodies}
 
 -- ---- the table and one section
 
-row-place : (ks : List Section) (rest : List ℕ) (row : ℕ) → row < length ks
-    → placeIn ks row ≡ (done, (getD (rowsOf ks ++ rest) (rowSize * row + 1) 0, getD (rowsOf ks ++ rest) (rowSize * row + 2) 0))
-unfolding placeIn rowsOf
+-- what a row of a table tells of its section
+abbrev pub rowPlace : List ℕ → ℕ → Located
+rowPlace table row = located Done (getD table (sectionNumbers * row + 1) 0) (getD table (sectionNumbers * row + 2) 0)
+
+row-place : (ks : List Section) (rest : List ℕ) (row : ℕ) → row < length ks → placeIn ks row ≡ rowPlace (sectionRows ks ++ rest) row
+unfolding placeIn sectionRows
 row-place [] rest row h = absurd (omega arith)
 row-place (k ∷ ks) rest zero h = refl
 row-place (k ∷ ks) rest (suc row) h =
-    let offset : rowSize * suc row + 1 ≡ suc (suc (suc (rowSize * row + 1))) = omega arith in
-    let size : rowSize * suc row + 2 ≡ suc (suc (suc (rowSize * row + 2))) = omega arith in
+    let offset : sectionNumbers * suc row + 1 ≡ suc (suc (suc (sectionNumbers * row + 1))) = omega arith in
+    let size : sectionNumbers * suc row + 2 ≡ suc (suc (suc (sectionNumbers * row + 2))) = omega arith in
     rw (offset, size) (row-place ks rest row (omega arith))
 
 module _ (cper : List ℕ) (short : length cper ≤ mostBytes) (is : isCper cper ≡ true) where
   place-is : (row : ℕ) → placeOf cper row ≡ placeIn (keptOf cper) row
   unfolding placeOf
-  place-is row = sym (a-cper cper (tooLong, (0, 0)) (notCper, (0, 0)) (placeIn (keptOf cper) row) short true (sym is) refl)
+  place-is row = sym (a-cper cper nowhere (placeIn (keptOf cper) row) short is)
 
   -- a row of a table with room for all is what the call on that section tells
-  pub table-agrees : (table : List ℕ) (row : ℕ) → length (keptOf cper) ≤ length table / rowSize → row < length (keptOf cper)
-      → (let after = sectionsOf cper table .0 in placeOf cper row ≡ (done, (getD after (rowSize * row + 1) 0, getD after (rowSize * row + 2) 0)))
+  pub table-agrees : (table : List ℕ) (row : ℕ) → length (keptOf cper) ≤ length table / sectionNumbers → row < length (keptOf cper)
+      → placeOf cper row ≡ rowPlace (sectionsOf cper table .0) row
   unfolding sectionsOf listedIn
   table-agrees table row room h =
       let ks = keptOf cper in
-      let all = take-all (length table / rowSize) ks room in
-      let after : sectionsOf cper table .0 ≡ rowsOf ks ++ drop (rowSize * length ks) table =
-      ap (λ (t : List ℕ × (ℕ × ℕ)). t .0) (sym (a-cper cper (table, (tooLong, 0)) (table, (notCper, 0)) (listedIn table ks) short true (sym is) refl))
-      ∙ ap (λ (written : List Section). rowsOf written ++ drop (rowSize * length written) table) all in
-      place-is row ∙ row-place ks (drop (rowSize * length ks) table) row h
-      ∙ ap (λ (l : List ℕ). (done, (getD l (rowSize * row + 1) 0, getD l (rowSize * row + 2) 0))) (sym after)
+      let all = take-all (length table / sectionNumbers) ks room in
+      let after : sectionsOf cper table .0 ≡ sectionRows ks ++ drop (sectionNumbers * length ks) table =
+      ap (λ (t : List ℕ × Listed). t .0) (sym (a-cper cper (unlisted table) (listedIn table ks) short is))
+      ∙ ap (λ (written : List Section). sectionRows written ++ drop (sectionNumbers * length written) table) all in
+      place-is row ∙ row-place ks (drop (sectionNumbers * length ks) table) row h
+      ∙ ap (λ (l : List ℕ). rowPlace l row) (sym after)
 
 -- ---- one section and the normal form
 

@@ -2,19 +2,20 @@
 -- Its header, its descriptors and its bodies are read as they were written. Assumes nothing.
 use mathlib.Core.Path.{_≡_, refl, sym, ap, ap₂, _∙_}
 use mathlib.Core.List.{List, [], _∷_, _++_}
-use mathlib.Core.Bool.{true}
-use Prim.Native.Nat.{ℕ, _+_, _*_, _≤_, _<_}
+use Prim.Native.Nat.{ℕ, _+_, _≤_, _<_}
 use native.Mathlib.Omega.{arith}
 use lib.ListN.{length, getD, drop}
 use borrow.Author.Tests.{le-leb}
 use Rattle.cper_header.specs.Record.{headerSize}
 use Rattle.cper_header.specs.Header.{headerOf, counted, normalHeader, headerBytes}
 use Rattle.cper_header.specs.declared.CperHeader.{CperHeader}
-use Rattle.cper_sections.specs.Answers.{done, tooLong, notCper, mostBytes}
-use Rattle.cper_sections.specs.Sections.{Section, keptOf}
-use Rattle.cper.specs.Normal.{bodySizes, bodiesAt, sizeOf, headerFor, descriptorsFor, bodiesOf, recordOf, normalOf, mostOutput, packedIn, normalisedOf}
+use Rattle.answers.specs.Numbers.{mostBytes}
+use Rattle.cper_sections.specs.Sections.{descriptorAt, keptOf}
+use Rattle.cper_sections.specs.declared.Answer.the-variants.{Done}
+use Rattle.cper_sections.specs.declared.kept.Section.{Section}
+use Rattle.cper_normal.specs.Normal.{bodySizes, bodiesAt, sizeOf, headerFor, descriptorsFor, bodiesOf, recordOf, normalOf, mostOutput, normalised, unwritten, packedIn, normalisedOf}
 use Rattle.cper_sections.proofs.Checked.{a-cper}
-use Rattle.cper.proofs.Packed.{kept-inside}
+use Rattle.cper_normal.proofs.Packed.{kept-inside}
 use Rattle.cper_laws.specs.Again.{repacked}
 use Rattle.cper_laws.proofs.Length.{normal-length}
 use Rattle.cper_laws.proofs.SectionsAgain.{descriptors-again, bodies-again}
@@ -41,7 +42,7 @@ module _ (cper : List ℕ) (bytes : (k : ℕ) → getD cper k 0 < 256) (whole : 
       let new = normalOf cper in
       let ns = repacked 0 (bodiesAt ks) ks in
       let i = kept-inside cper in
-      let start : bodiesAt ns ≡ bodiesAt ks = ap (λ (n : ℕ). headerSize + 72 * n) (length-repacked 0 (bodiesAt ks) ks) in
+      let start : bodiesAt ns ≡ bodiesAt ks = ap (λ (n : ℕ). descriptorAt n) (length-repacked 0 (bodiesAt ks) ks) in
       let header : headerFor new ns ≡ headerFor cper ks =
       ap₂ (λ (n m : ℕ). headerBytes (normalHeader (counted n m (headerOf new)))) (length-repacked 0 (bodiesAt ks) ks) again-size
       ∙ ap (λ (h : CperHeader). headerBytes (normalHeader (counted (length ks) (sizeOf ks) h))) (normal-header cper bytes whole small) in
@@ -54,11 +55,11 @@ module _ (cper : List ℕ) (bytes : (k : ℕ) → getD cper k 0 < 256) (whole : 
 
   -- so the call on a normal form within the length limit writes it as it is
   pub normalise-again : length (normalOf cper) ≤ mostBytes → (out : List ℕ) → length (normalOf cper) ≤ length out
-      → normalisedOf (normalOf cper) out ≡ (normalOf cper ++ drop (length (normalOf cper)) out, (done, length (normalOf cper)))
+      → normalisedOf (normalOf cper) out ≡ (normalOf cper ++ drop (length (normalOf cper)) out, normalised Done (length (normalOf cper)))
   unfolding normalisedOf packedIn
   normalise-again short out room =
       let new = normalOf cper in
       let size : sizeOf (keptOf new) ≡ length new = ap sizeOf (kept-again cper bytes whole small) ∙ again-size ∙ sym (normal-length cper whole) in
-      sym (a-cper new (out, (tooLong, 0)) (out, (notCper, 0)) (packedIn new out) short true (sym (normal-is-cper cper bytes whole small)) refl)
+      sym (a-cper new (unwritten out) (packedIn new out) short (normal-is-cper cper bytes whole small))
       ∙ rw (le-leb (sizeOf (keptOf new)) (length out) (omega arith), le-leb (sizeOf (keptOf new)) mostOutput (omega arith))
-      (ap₂ (λ (l : List ℕ) (n : ℕ). (l ++ drop n out, (done, n))) idempotent size)
+      (ap₂ (λ (l : List ℕ) (n : ℕ). (l ++ drop n out, normalised Done n)) idempotent size)

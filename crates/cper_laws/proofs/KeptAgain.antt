@@ -12,8 +12,8 @@ use Rattle.cper_header.specs.Record.{headerSize, isCper, countOf}
 use Rattle.cper_header.specs.Header.{headerOf, counted, normalHeader}
 use Rattle.cper_descr.specs.Descriptor.{descriptorSize}
 use Rattle.cper_sections.specs.Sections.{told, keeps, keptFrom, keptOf}
-use Rattle.cper.specs.Normal.{bodiesAt, sizeOf, headerFor, descriptorsFor, bodiesOf, normalOf, mostOutput}
-use Rattle.cper.proofs.Packed.{kept-inside}
+use Rattle.cper_normal.specs.Normal.{bodiesAt, sizeOf, headerFor, descriptorsFor, bodiesOf, normalOf, mostOutput}
+use Rattle.cper_normal.proofs.Packed.{kept-inside}
 use Rattle.cper_laws.specs.Again.{repacked, bodyList}
 use Rattle.cper_laws.proofs.Length.{length-descriptors, length-header-for, normal-length}
 use Rattle.cper_laws.proofs.Reading.{From, past}

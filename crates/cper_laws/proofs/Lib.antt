@@ -4,7 +4,6 @@ pub mod HeaderAgain
 pub mod Idempotent
 pub mod KeptAgain
 pub mod Length
-pub mod Numbers
 pub mod Over
 pub mod Reading
 pub mod SectionsAgain

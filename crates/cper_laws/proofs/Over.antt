@@ -8,18 +8,18 @@ use lib.Dec.{leb}
 use lib.ListN.{length}
 use borrow.Author.Tests.{lt-leb}
 use Rattle.cper_header.specs.Record.{isCper}
-use Rattle.cper_sections.specs.Answers.{tooLong, notCper, mostBytes}
-use Rattle.cper.specs.Answers.{outputShort}
+use Rattle.answers.specs.Numbers.{mostBytes}
 use Rattle.cper_sections.specs.Sections.{keptOf}
-use Rattle.cper.specs.Normal.{sizeOf, mostOutput, packedIn, normalisedOf}
+use Rattle.cper_sections.specs.declared.Answer.the-variants.{OutputShort}
+use Rattle.cper_normal.specs.Normal.{sizeOf, mostOutput, unwritten, packedIn, normalisedOf}
 use Rattle.cper_sections.proofs.Checked.{a-cper}
 
 neither-way : {A : Type 0} (t : Bool) (x y : A) → cond (t && false) x y ≡ y
 neither-way true x y = refl
 neither-way false x y = refl
 
-pub over-refused : (cper out : List ℕ) → length cper ≤ mostBytes → isCper cper ≡ true → mostOutput < sizeOf (keptOf cper) → normalisedOf cper out ≡ (out, (outputShort, 0))
+pub over-refused : (cper out : List ℕ) → length cper ≤ mostBytes → isCper cper ≡ true → mostOutput < sizeOf (keptOf cper) → normalisedOf cper out ≡ unwritten out OutputShort
 unfolding normalisedOf packedIn
 over-refused cper out short is over =
-    sym (a-cper cper (out, (tooLong, 0)) (out, (notCper, 0)) (packedIn cper out) short true (sym is) refl)
-    ∙ rw (lt-leb (sizeOf (keptOf cper)) mostOutput over) (neither-way (leb (sizeOf (keptOf cper)) (length out)) _ (out, (outputShort, 0)))
+    sym (a-cper cper (unwritten out) (packedIn cper out) short is)
+    ∙ rw (lt-leb (sizeOf (keptOf cper)) mostOutput over) (neither-way (leb (sizeOf (keptOf cper)) (length out)) _ (unwritten out OutputShort))

@@ -12,9 +12,11 @@ use Rattle.le.specs.Le.{le}
 use Rattle.cper_header.specs.Record.{countOf}
 use Rattle.cper_descr.specs.Descriptor.{descriptorSize, offsetAt, lengthAt, descriptorOf, moved, normalDescriptor, descriptorBytes}
 use Rattle.cper_descr.specs.declared.CperSectionDescriptor.{CperSectionDescriptor}
-use Rattle.cper_sections.specs.Sections.{Section, descriptorAt, told, keeps, keptFrom, keptOf, bodyOf}
-use Rattle.cper.specs.Normal.{bodySizes, mostOutput, descriptorFor, descriptorsFor, bodiesOf}
-use Rattle.cper.proofs.Packed.{Inside, length-body, length-descriptor-for}
+use Rattle.cper_sections.specs.Sections.{descriptorAt, told, keeps, keptFrom, keptOf, bodyOf}
+use Rattle.cper_sections.specs.Steps.{Within}
+use Rattle.cper_sections.specs.declared.kept.Section.{Section}
+use Rattle.cper_normal.specs.Normal.{bodySizes, mostOutput, descriptorFor, descriptorsFor, bodiesOf}
+use Rattle.cper_normal.proofs.Packed.{Inside, length-body, length-descriptor-for}
 use Rattle.cper_laws.specs.Again.{repacked, bodyList}
 use Rattle.cper_laws.proofs.Reading.{From, le-drop, past, read-bytes}
 use Rattle.cper_laws.proofs.DescriptorAgain.{descriptor-again, descriptor-plain}
@@ -43,14 +45,14 @@ module _ (cper : List ℕ) (bytes : (k : ℕ) → getD cper k 0 < 256) (new : Li
   normalFor k to = normalDescriptor (moved to (descriptorOf (drop (descriptorAt (k .index)) cper)))
 
   -- it is read again
-  again : (k : Section) (row to : ℕ) (after : List ℕ) → descriptorAt (k .index) + descriptorSize ≤ length cper → to ≤ mostOutput
+  again : (k : Section) (row to : ℕ) (after : List ℕ) → Within cper k → to ≤ mostOutput
       → From new (descriptorAt row) (descriptorFor cper k to ++ after) → descriptorOf (drop (descriptorAt row) new) ≡ normalFor k to
   again k row to after i small from =
       let at = descriptorAt (k .index) in
       let tail = drop at cper in
       let tail-bytes : (j : ℕ) → getD tail j 0 < 256 = λ j. rw (getD-drop at cper j 0) (bytes (at + j)) in
       ap descriptorOf (from .is)
-      ∙ descriptor-again (normalFor k to) (descriptor-plain tail tail-bytes (omega (arith, length-drop at cper)) to (omega arith)) after
+      ∙ descriptor-again (normalFor k to) (descriptor-plain tail tail-bytes (omega (arith, i .descriptor, length-drop at cper)) to (omega arith)) after
 
   -- so the section is told
   told-again : (k : Section) (row to : ℕ) → k .size ≡ told cper (k .index) .size → descriptorOf (drop (descriptorAt row) new) ≡ normalFor k to
@@ -64,7 +66,7 @@ module _ (cper : List ℕ) (bytes : (k : ℕ) → getD cper k 0 < 256) (new : Li
       ap₂ (λ (o n : ℕ). record { index = row; offset = o; size = n }) offset size
 
   -- the descriptors after it
-  next : (k : Section) (row to : ℕ) (after : List ℕ) → descriptorAt (k .index) + descriptorSize ≤ length cper
+  next : (k : Section) (row to : ℕ) (after : List ℕ) → Within cper k
       → From new (descriptorAt row) (descriptorFor cper k to ++ after) → From new (descriptorAt (row + 1)) after
   next k row to after i from =
       let e : descriptorAt row + descriptorSize ≡ descriptorAt (row + 1) = omega arith in
@@ -94,7 +96,7 @@ module _ (cper : List ℕ) (bytes : (k : ℕ) → getD cper k 0 < 256) (new : Li
       rw (le-leb (descriptorAt row + descriptorSize) (length new) (omega arith), le-leb (told new row .offset + told new row .size) (length new) body)
       (ap₂ (λ (x : Section) (xs : List Section). x ∷ xs) t
       (ap (λ (j : ℕ). keptFrom new j (length ks)) n
-      ∙ sections-again ks (row + 1) (to + k .size) after (i .2) (s .1) (omega arith) (omega arith) (next k row to (descriptorsFor cper ks (to + k .size) ++ after) (i .0) here)))
+      ∙ sections-again ks (row + 1) (to + k .size) after (i .1) (s .1) (omega arith) (omega arith) (next k row to (descriptorsFor cper ks (to + k .size) ++ after) (i .0) here)))
 
   -- their descriptors are the same
   pub descriptors-again : (ks : List Section) (row to : ℕ) (after : List ℕ) → Inside cper ks → to + bodySizes ks ≤ mostOutput
@@ -106,7 +108,7 @@ module _ (cper : List ℕ) (bytes : (k : ℕ) → getD cper k 0 < 256) (new : Li
       let d = again k row to (descriptorsFor cper ks (to + k .size) ++ after) (i .0) (omega arith) here in
       ap₂ (λ (a b : List ℕ). a ++ b)
       (ap (λ (x : CperSectionDescriptor). descriptorBytes (normalDescriptor (moved to x))) d)
-      (descriptors-again ks (row + 1) (to + k .size) after (i .2) (omega arith) (next k row to (descriptorsFor cper ks (to + k .size) ++ after) (i .0) here))
+      (descriptors-again ks (row + 1) (to + k .size) after (i .1) (omega arith) (next k row to (descriptorsFor cper ks (to + k .size) ++ after) (i .0) here))
 
   -- so are their bodies
   pub bodies-again : (ks : List Section) (row to : ℕ) (after : List ℕ) → Inside cper ks → From new to (bodiesOf cper ks ++ after)
@@ -115,7 +117,7 @@ module _ (cper : List ℕ) (bytes : (k : ℕ) → getD cper k 0 < 256) (new : Li
   bodies-again [] row to after i from = (refl, refl)
   bodies-again (k ∷ ks) row to after i from =
       let here : From new to (bodyOf cper k ++ (bodiesOf cper ks ++ after)) = record { is = from .is ∙ append-assoc (bodyOf cper k) (bodiesOf cper ks) after } in
-      let size = length-body cper k (i .1) in
+      let size = length-body cper k (i .0) in
       let body = read-bytes (k .size) (bodyOf cper k) (bodiesOf cper ks ++ after) size here in
-      let rest = bodies-again ks (row + 1) (to + k .size) after (i .2) (past (k .size) (bodyOf cper k) (bodiesOf cper ks ++ after) size here) in
+      let rest = bodies-again ks (row + 1) (to + k .size) after (i .1) (past (k .size) (bodyOf cper k) (bodiesOf cper ks ++ after) size here) in
       (ap₂ (λ (x : List ℕ) (xs : List (List ℕ)). x ∷ xs) body (rest .0), ap₂ (λ (a b : List ℕ). a ++ b) body (rest .1))

@@ -1,7 +1,8 @@
 -- The sections of a normal form, from those that it is made of.
 use Prim.Native.Nat.{ℕ, _+_}
 use mathlib.Core.List.{List, [], _∷_}
-use Rattle.cper_sections.specs.Sections.{Section, bodyOf}
+use Rattle.cper_sections.specs.Sections.{bodyOf}
+use Rattle.cper_sections.specs.declared.kept.Section.{Section}
 
 -- the same sizes; descriptors from `row` on, bodies from `to` on, one after the other
 unfoldable pub repacked : ℕ → ℕ → List Section → List Section

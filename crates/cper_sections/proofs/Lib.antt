@@ -1,3 +1,3 @@
 pub mod Checked
-pub mod Kept
+pub mod KeptFrom
 pub mod Table

@@ -7,15 +7,14 @@ use lib.ListN.{length, take, drop}
 use Rattle.le.specs.Le.{le}
 use Rattle.cper_header.specs.Record.{headerSize, countOf}
 use Rattle.cper_descr.specs.Descriptor.{descriptorSize, offsetAt, lengthAt}
-use Rattle.cper_sections.specs.Answers.{done, tooLong, notCper, sectionsFull, none, checked}
+use Rattle.cper_sections.specs.Answers.{checked}
+use Rattle.cper_sections.specs.declared.Answer.{Answer}
+use Rattle.cper_sections.specs.declared.Answer.the-variants.{Done, SectionsFull, None}
+use Rattle.cper_sections.specs.declared.kept.Section.{Section}
+use Rattle.cper_sections.specs.declared.Listed.{Listed}
+use Rattle.cper_sections.specs.declared.Located.{Located}
 
 -- ---- which sections are kept
-
--- a section: its descriptor's index, its body's offset and length
-pub record Section : Type 0 where
-  pub index : ℕ
-  pub offset : ℕ
-  pub size : ℕ
 
 -- where the descriptor with an index stands
 abbrev pub descriptorAt : ℕ → ℕ
@@ -44,37 +43,55 @@ bodyOf cper k = take (k .size) (drop (k .offset) cper)
 
 -- ---- the section table
 
-abbrev pub rowSize : ℕ
-rowSize = 3
+-- a row: so many numbers
+abbrev pub sectionNumbers : ℕ
+sectionNumbers = 3
+
+abbrev pub rowOf : Section → List ℕ
+rowOf k = k .index ∷ k .offset ∷ k .size ∷ []
 
 -- the sections' rows, one after the other
-unfoldable pub rowsOf : List Section → List ℕ
-rowsOf [] = []
-rowsOf (k ∷ ks) = k .index ∷ k .offset ∷ k .size ∷ rowsOf ks
+unfoldable pub sectionRows : List Section → List ℕ
+sectionRows [] = []
+sectionRows (k ∷ ks) = rowOf k ++ sectionRows ks
 
--- as many rows as the table has room for; the table, the answer and the rows written
-unfoldable pub listedIn : List ℕ → List Section → List ℕ × (ℕ × ℕ)
+-- what is told of some rows
+abbrev pub listed : Answer → ℕ → Listed
+listed answer rows = record { answer = answer; rows = rows }
+
+-- as many rows as the table has room for; the table, and what is told of it
+unfoldable pub listedIn : List ℕ → List Section → List ℕ × Listed
 listedIn table ks =
-    let room = length table / rowSize in
+    let room = length table / sectionNumbers in
     let written = take room ks in
-    (rowsOf written ++ drop (rowSize * length written) table, (cond (leb (length ks) room) done sectionsFull, length written))
+    (sectionRows written ++ drop (sectionNumbers * length written) table, listed (cond (leb (length ks) room) Done SectionsFull) (length written))
 
--- the table after the call, and the answer
-unfoldable pub sectionsOf : List ℕ → List ℕ → List ℕ × (ℕ × ℕ)
-sectionsOf cper table = checked cper (table, (tooLong, 0)) (table, (notCper, 0)) (listedIn table (keptOf cper))
+-- a refusal leaves the table as it is
+abbrev pub unlisted : List ℕ → Answer → List ℕ × Listed
+unlisted table answer = (table, listed answer 0)
+
+-- the table after the call, and what is told
+unfoldable pub sectionsOf : List ℕ → List ℕ → List ℕ × Listed
+sectionsOf cper table = checked cper (unlisted table) (listedIn table (keptOf cper))
 
 -- ---- one section
 
--- the place of the section with a row number
-unfoldable pub placeIn : List Section → ℕ → ℕ × (ℕ × ℕ)
-placeIn [] row = (none, (0, 0))
-placeIn (k ∷ ks) zero = (done, (k .offset, k .size))
+-- what is told of a body; with a refusal, nothing at 0
+abbrev pub located : Answer → ℕ → ℕ → Located
+located answer offset size = record { answer = answer; offset = offset; length = size }
+
+abbrev pub nowhere : Answer → Located
+nowhere answer = located answer 0 0
+
+-- where the section with a row number is
+unfoldable pub placeIn : List Section → ℕ → Located
+placeIn [] row = nowhere None
+placeIn (k ∷ ks) zero = located Done (k .offset) (k .size)
 placeIn (k ∷ ks) (suc row) = placeIn ks row
 
--- the answer, the body's offset and its length
-unfoldable pub placeOf : List ℕ → ℕ → ℕ × (ℕ × ℕ)
-placeOf cper row = checked cper (tooLong, (0, 0)) (notCper, (0, 0)) (placeIn (keptOf cper) row)
+unfoldable pub placeOf : List ℕ → ℕ → Located
+placeOf cper row = checked cper nowhere (placeIn (keptOf cper) row)
 
 -- the part of the input at a place
-abbrev pub partAt : List ℕ → ℕ × (ℕ × ℕ) → List ℕ
-partAt cper place = take (place .1 .1) (drop (place .1 .0) cper)
+abbrev pub partAt : List ℕ → Located → List ℕ
+partAt cper place = take (place .length) (drop (place .offset) cper)

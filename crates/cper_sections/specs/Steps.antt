@@ -1,22 +1,36 @@
--- What the inner functions give: one descriptor's body, a place's part of the input.
-use Prim.Native.Nat.{ℕ, _+_}
-use mathlib.Core.List.{List}
-use mathlib.Core.Bool.{cond, true, false}
-use Rattle.cper_sections.specs.Sections.{Section, told, keeps}
-use Rattle.cper_sections.specs.declared.Body.{Body}
-use Rattle.cper_sections.specs.declared.Span.{Span}
+-- What the inner functions ask and give: a descriptor that lies in the input, the next kept section.
+use Prim.Native.Nat.{ℕ, _+_, _-_, _≤_, _<_}
+use mathlib.Core.Path.{_≡_}
+use mathlib.Core.List.{List, [], _∷_}
+use lib.ListN.{length}
+use Rattle.cper_descr.specs.Descriptor.{descriptorSize}
+use Rattle.cper_sections.specs.Sections.{descriptorAt, keptFrom}
+use Rattle.cper_sections.specs.declared.kept.Next.{Next}
+use Rattle.cper_sections.specs.declared.kept.Next.the-variants.{Kept, None}
+use Rattle.cper_sections.specs.declared.kept.Section.{Section}
 
--- the body of a kept section; of another, none
-unfoldable pub bodyAt : List ℕ → ℕ → Body
-bodyAt cper i =
-    cond (keeps cper i)
-    (record { kept = true; offset = told cper i .offset; size = told cper i .size })
-    (record { kept = false; offset = 0; size = 0 })
+-- the descriptor with an index lies in the input
+pub record Whole (cper : List ℕ) (index : ℕ) : Type 0 where
+  pub few : index < 65536
+  pub inside : descriptorAt index + descriptorSize ≤ length cper
 
--- the section of a body
-abbrev pub section : ℕ → Body → Section
-section i b = record { index = i; offset = b .offset; size = b .size }
+-- a section's descriptor and body lie in the input
+pub record Within (cper : List ℕ) (k : Section) : Type 0 where
+  pub descriptor : descriptorAt (k .index) + descriptorSize ≤ length cper
+  pub body : k .offset + k .size ≤ length cper
 
--- from a place's offset to its end
-abbrev pub spanOf : ℕ × (ℕ × ℕ) → Span
-spanOf place = record { start = place .1 .0; stop = place .1 .0 + place .1 .1 }
+-- the kept sections from an index on, below a count
+abbrev pub keptIn : List ℕ → ℕ → ℕ → List Section
+keptIn cper index count = keptFrom cper index (count - index)
+
+-- the next kept section, and then those after it
+pub record Found (cper : List ℕ) (from count : ℕ) (k : Section) : Type 0 where
+  pub on : from ≤ k .index
+  pub below : k .index < count
+  pub within : Within cper k
+  pub rest : keptIn cper from count ≡ k ∷ keptIn cper (k .index + 1) count
+
+-- from an index on, the kept sections are none, or the next and those after it
+abbrev pub NextKept : List ℕ → ℕ → ℕ → Next → Type 0
+NextKept cper from count None = keptIn cper from count ≡ []
+NextKept cper from count (Kept k) = Found cper from count k

@@ -2,19 +2,19 @@
 -- By induction over the run. Assumes nothing.
 use mathlib.Core.Path.{_≡_, refl, sym, ap, ap₂, _∙_}
 use mathlib.Core.List.{List, [], _∷_, _++_}
-use Prim.Native.Nat.{ℕ, zero, suc, _+_, _*_, _-_, _≤_, _<_}
+use Prim.Native.Nat.{ℕ, suc, _+_, _*_, _-_, _<_}
 use native.Mathlib.Omega.{arith}
-use lib.ListN.{length, set, drop, replicate, length-append}
+use lib.ListN.{length, set, replicate, length-append}
 use lib.Seq.{set-at, append-snoc}
 use Rattle.le.specs.Le.{le}
 use Rattle.layout.specs.Fields.{Field, field, readAll}
 use Rattle.layout.specs.Runs.{cells}
 use Rattle.layout.proofs.Fields.{length-read}
 use Rattle.layout.proofs.Runs.{length-cells, last-cell, read-append}
-use Rattle.frame.specs.declared.Layout.{Layout}
-use Rattle.frame.specs.declared.Layout.the-variants.{Zero, One, Two, Three, Four, Five, Six, LegacyServer, LegacyGpu, Bad}
-use Rattle.frame.specs.Frame.{countOf}
-use Rattle.header.specs.Layouts.{padded, tableOf, statusesFrom}
+use Rattle.header_judge.specs.declared.Layout.{Layout}
+use Rattle.header_judge.specs.declared.Layout.the-variants.{Zero, One, Two, Three, Four, Five, Six, LegacyServer, LegacyGpu, Bad}
+use Rattle.header_judge.specs.Head.{countOf}
+use Rattle.header.specs.Layouts.{padded, statusesFrom}
 use Rattle.header.specs.Header.{numbersOf}
 
 -- the last number of a run

@@ -1,27 +1,61 @@
--- What a header decode answers (document 01, 'Record header' and 'Numbers the caller gets'), and what the Rust offers on a header.
-use Prim.Native.Nat.{ℕ, _+_, _*_, _-_}
-use mathlib.Core.Bool.{Bool, true, false, cond}
-use mathlib.Core.List.{List, [], _++_}
+-- What a header decode answers (document 01, 'Record header' and 'Numbers the caller gets').
+use Prim.Native.Nat.{ℕ}
+use mathlib.Core.Bool.{cond}
+use mathlib.Core.List.{List, []}
 use lib.Dec.{eqb}
-use lib.ListN.{length, replicate}
+use Rattle.answers.specs.Numbers.{done, badRules, badHeader, badType, ended}
 use Rattle.rules.specs.Rules.{validOf}
 use Rattle.layout.specs.Fields.{readAll}
-use Rattle.frame.specs.Version.{versionOf}
-use Rattle.frame.specs.Frame.{recordSize, extendedSize, unit, layoutOf, countOf, headOf}
-use Rattle.frame.specs.declared.version.Version.{Version}
-use Rattle.frame.specs.declared.RecordSize.{RecordSize}
-use Rattle.frame.specs.declared.Layout.{Layout}
-use Rattle.frame.specs.declared.Head.{Head}
-use Rattle.frame.specs.declared.Head.the-variants.{Record}
+use Rattle.header_judge.specs.Version.{versionOf}
+use Rattle.header_judge.specs.Head.{recordSize, extendedSize, layoutOf, countOf, headOf}
+use Rattle.header_judge.specs.declared.RecordSize.{RecordSize}
+use Rattle.header_judge.specs.declared.Layout.{Layout}
+use Rattle.header_judge.specs.declared.Head.{Head}
+use Rattle.header_judge.specs.declared.Head.the-variants.{Record}
 use Rattle.header.specs.Layouts.{tableOf, typeFrom, statusesFrom, padded}
-use Rattle.header.specs.declared.HeaderType.{HeaderType}
-use Rattle.header.specs.declared.HeaderType.the-variants.{Type0, Type1, Type2, Type3, Type4, Type5, Type6, Type0LegacyServer, Type0LegacyGpu}
+use Rattle.header.specs.declared.HeaderType.the-variants.{Type0}
 use Rattle.header.specs.declared.Header.{Header}
 use Rattle.header.specs.declared.Answer.{Answer}
 use Rattle.header.specs.declared.Answer.the-variants.{Done, Ended, BadRules, BadHeader, BadType}
+use Rattle.header.specs.declared.Judged.{Judged}
 use Rattle.header.specs.declared.Decoded.{Decoded}
 
--- ---- decode
+-- ---- answers
+
+-- document 01's number of each answer
+abbrev pub numberOf : Answer → ℕ
+numberOf Done = done
+numberOf Ended = ended
+numberOf BadRules = badRules
+numberOf BadHeader = badHeader
+numberOf (BadType t) = badType
+
+-- the type that comes with it
+abbrev pub typeTold : Answer → ℕ
+typeTold Done = 0
+typeTold Ended = 0
+typeTold BadRules = 0
+typeTold BadHeader = 0
+typeTold (BadType t) = t
+
+-- ---- a header judged
+
+abbrev pub refusal : Answer → Judged
+refusal a = record { answer = a; word = 0; flags = 0; declared = 0; «header_size» = 0 }
+
+-- by what one try found
+unfoldable pub judgedFrom : Head → Judged
+judgedFrom Head.Ended = refusal Ended
+judgedFrom Head.BadHeader = refusal BadHeader
+judgedFrom (Head.BadType t) = refusal (BadType t)
+judgedFrom (Record word flags declared size) =
+    record { answer = Done; word = word; flags = flags; declared = declared; «header_size» = size }
+
+-- bad rules come first
+unfoldable pub judgedOf : List ℕ → List ℕ → Judged
+judgedOf rules bs = cond (validOf rules) (judgedFrom (headOf rules bs)) (refusal BadRules)
+
+-- ---- and decoded
 
 -- the numbers of a layout's table
 unfoldable pub numbersOf : List ℕ → Layout → List ℕ
@@ -50,33 +84,14 @@ zeroHeader =
       «completion_statuses» = padded [];
     }
 
-abbrev pub refusal : Answer → Decoded
-refusal a = record { answer = a; header = zeroHeader; flags = 0; declared = 0; «header_size» = 0 }
+-- the header that was judged
+abbrev pub headerFrom : List ℕ → Judged → Header
+headerFrom bs j = cond (eqb (numberOf (j .answer)) done) (headerOf bs (j .word) (j .flags)) zeroHeader
 
--- what one try found, with the whole header
-unfoldable pub decodedFrom : List ℕ → Head → Decoded
-decodedFrom bs Head.Ended = refusal Ended
-decodedFrom bs Head.BadHeader = refusal BadHeader
-decodedFrom bs (Head.BadType t) = refusal (BadType t)
-decodedFrom bs (Record word flags declared size) =
-    record { answer = Done; header = headerOf bs word flags; flags = flags; declared = declared; «header_size» = size }
+-- what was judged, with the whole header
+abbrev pub decodedFrom : List ℕ → Judged → Decoded
+decodedFrom bs j =
+    record { answer = j .answer; header = headerFrom bs j; flags = j .flags; declared = j .declared; «header_size» = j .«header_size» }
 
--- bad rules come first
 unfoldable pub decodedOf : List ℕ → List ℕ → Decoded
-decodedOf rules bs = cond (validOf rules) (decodedFrom bs (headOf rules bs)) (refusal BadRules)
-
--- document 01's number of each answer; ended has none there, and is 254
-abbrev pub numberOf : Answer → ℕ
-numberOf Done = 0
-numberOf Ended = 254
-numberOf BadRules = 2
-numberOf BadHeader = 3
-numberOf (BadType t) = 4
-
--- the type that comes with it
-abbrev pub typeTold : Answer → ℕ
-typeTold Done = 0
-typeTold Ended = 0
-typeTold BadRules = 0
-typeTold BadHeader = 0
-typeTold (BadType t) = t
+decodedOf rules bs = decodedFrom bs (judgedOf rules bs)

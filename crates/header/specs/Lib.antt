@@ -1,3 +1,4 @@
 pub mod Layouts
 pub mod Header
 pub mod Access
+pub mod Steps

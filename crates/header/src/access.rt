@@ -22,7 +22,7 @@ impl Header {
         ensures { λ r. ⌜ r ≡ recordBytes self flags ⌝ }
     {
         let size = self.size;
-        frame::in_bytes(
+        header_judge::in_bytes(
             (size.record_size as usize) + (size.extended_record_size as usize),
             flags,
         )
@@ -33,7 +33,7 @@ impl Header {
     {
         let size = self.size;
         if 0 < size.extended_record_size {
-            return Extended::At(frame::in_bytes(size.record_size as usize, flags));
+            return Extended::At(header_judge::in_bytes(size.record_size as usize, flags));
         }
         Extended::Absent
     }

@@ -5,23 +5,18 @@ ghost use lib.ListN.{length};
 ghost use Rattle.le.specs.Le.{le};
 ghost use Rattle.layout.specs.Fields.{readAll};
 ghost use Rattle.layout.specs.Runs.{cells};
-ghost use Rattle.frame.specs.Frame.{sizeFor, countOf};
-ghost use Rattle.frame.specs.declared.Layout.the-variants.{Two, Three, Four, Five, Six, LegacyServer, LegacyGpu};
-ghost use Rattle.header.specs.Layouts.{typeFrom, statusesFrom, padded, serverDie, status, complete};
+ghost use Rattle.header_judge.specs.Head.{sizeFor, countOf};
+ghost use Rattle.header_judge.specs.declared.Layout.the-variants.{Two, Three, Four, Five, Six, LegacyServer, LegacyGpu};
+ghost use Rattle.header.specs.Layouts.{stamp, statusOf, serverDie, typeFrom, statusesFrom, padded};
 ghost use Rattle.header.specs.Header.{numbersOf};
 use crate::HeaderType;
-use frame::Layout;
-
-// The fields that most layouts share.
-pub struct Stamp {
-    pub timestamp: u64,
-    pub agent_version: u32,
-    pub reason: u32,
-}
+use crate::Stamp;
+use crate::Status;
+use header_judge::Layout;
 
 fn stamp_of(s: &[u8]) -> Stamp
     requires { ⌜ 24 ≤ length (now s) ⌝ }
-    ensures { λ r. ⌜ (r .timestamp ≡ le 8 (now (s .entry)) 8) × (r .«agent_version» ≡ le 4 (now (s .entry)) 16) × (r .reason ≡ le 4 (now (s .entry)) 20) ⌝ }
+    ensures { λ r. ⌜ r ≡ stamp (le 8 (now (s .entry)) 8) (le 4 (now (s .entry)) 16) (le 4 (now (s .entry)) 20) ⌝ }
 {
     Stamp {
         timestamp: le::u64_at(s, 8),
@@ -33,7 +28,7 @@ fn stamp_of(s: &[u8]) -> Stamp
 // In a legacy layout they lie elsewhere.
 fn legacy_stamp_of(s: &[u8]) -> Stamp
     requires { ⌜ 24 ≤ length (now s) ⌝ }
-    ensures { λ r. ⌜ (r .timestamp ≡ le 8 (now (s .entry)) 8) × (r .«agent_version» ≡ le 4 (now (s .entry)) 20) × (r .reason ≡ le 4 (now (s .entry)) 4) ⌝ }
+    ensures { λ r. ⌜ r ≡ stamp (le 8 (now (s .entry)) 8) (le 4 (now (s .entry)) 20) (le 4 (now (s .entry)) 4) ⌝ }
 {
     Stamp {
         timestamp: le::u64_at(s, 8),
@@ -42,15 +37,9 @@ fn legacy_stamp_of(s: &[u8]) -> Stamp
     }
 }
 
-// A status of 31 bits, and above it whether the collection is complete.
-struct Status {
-    completion_status: u32,
-    collection_complete: bool,
-}
-
 fn status_at(s: &[u8], at: usize) -> Status
     requires { ⌜ at + 4 ≤ length (now s) ⌝ }
-    ensures { λ r. ⌜ (r .«completion_status» ≡ status (le 4 (now (s .entry)) at)) × (r .«collection_complete» ≡ complete (le 4 (now (s .entry)) at)) ⌝ }
+    ensures { λ r. ⌜ r ≡ statusOf (le 4 (now (s .entry)) at) ⌝ }
 {
     let word = le::u32_at(s, at);
     Status {
@@ -63,26 +52,16 @@ fn type2(s: &[u8]) -> HeaderType
     requires { ⌜ 24 ≤ length (now s) ⌝ }
     ensures { λ r. ⌜ r ≡ typeFrom Two (numbersOf (now (s .entry)) Two) ⌝ }
 {
-    let stamp = stamp_of(s);
-    HeaderType::Type2 {
-        timestamp: stamp.timestamp,
-        agent_version: stamp.agent_version,
-        reason: stamp.reason,
-    }
+    HeaderType::Type2 { stamp: stamp_of(s) }
 }
 
 fn type3(s: &[u8]) -> HeaderType
     requires { ⌜ 28 ≤ length (now s) ⌝ }
     ensures { λ r. ⌜ r ≡ typeFrom Three (numbersOf (now (s .entry)) Three) ⌝ }
 {
-    let stamp = stamp_of(s);
-    let status = status_at(s, 24);
     HeaderType::Type3 {
-        timestamp: stamp.timestamp,
-        agent_version: stamp.agent_version,
-        reason: stamp.reason,
-        completion_status: status.completion_status,
-        collection_complete: status.collection_complete,
+        stamp: stamp_of(s),
+        status: status_at(s, 24),
     }
 }
 
@@ -90,11 +69,8 @@ fn type4(s: &[u8]) -> HeaderType
     requires { ⌜ 32 ≤ length (now s) ⌝ }
     ensures { λ r. ⌜ r ≡ typeFrom Four (numbersOf (now (s .entry)) Four) ⌝ }
 {
-    let stamp = stamp_of(s);
     HeaderType::Type4 {
-        timestamp: stamp.timestamp,
-        agent_version: stamp.agent_version,
-        reason: stamp.reason,
+        stamp: stamp_of(s),
         whoami: le::u32_at(s, 24),
         misc: le::u32_at(s, 28),
     }
@@ -104,14 +80,9 @@ fn type5(s: &[u8]) -> HeaderType
     requires { ⌜ 32 ≤ length (now s) ⌝ }
     ensures { λ r. ⌜ r ≡ typeFrom Five (numbersOf (now (s .entry)) Five) ⌝ }
 {
-    let stamp = stamp_of(s);
-    let status = status_at(s, 24);
     HeaderType::Type5 {
-        timestamp: stamp.timestamp,
-        agent_version: stamp.agent_version,
-        reason: stamp.reason,
-        completion_status: status.completion_status,
-        collection_complete: status.collection_complete,
+        stamp: stamp_of(s),
+        status: status_at(s, 24),
         error_status: le::u32_at(s, 28),
     }
 }
@@ -120,12 +91,9 @@ fn type6(s: &[u8]) -> HeaderType
     requires { ⌜ 28 ≤ length (now s) ⌝ }
     ensures { λ r. ⌜ r ≡ typeFrom Six (numbersOf (now (s .entry)) Six) ⌝ }
 {
-    let stamp = stamp_of(s);
     let half = le::u16_at(s, 26);
     HeaderType::Type6 {
-        timestamp: stamp.timestamp,
-        agent_version: stamp.agent_version,
-        reason: stamp.reason,
+        stamp: stamp_of(s),
         die_id: le::u8_at(s, 24),
         socket_id: le::u8_at(s, 25),
         completion_status_size: half % 128,
@@ -148,16 +116,11 @@ fn type0_legacy_server(s: &[u8]) -> HeaderType
     requires { ⌜ 32 ≤ length (now s) ⌝ }
     ensures { λ r. ⌜ r ≡ typeFrom LegacyServer (numbersOf (now (s .entry)) LegacyServer) ⌝ }
 {
-    let stamp = legacy_stamp_of(s);
-    let status = status_at(s, 28);
     HeaderType::Type0LegacyServer {
-        timestamp: stamp.timestamp,
-        agent_version: stamp.agent_version,
-        reason: stamp.reason,
+        stamp: legacy_stamp_of(s),
         die_id: server_die(le::u32_at(s, 0) % 256),
         socket_id: le::u8_at(s, 24),
-        completion_status: status.completion_status,
-        collection_complete: status.collection_complete,
+        status: status_at(s, 28),
     }
 }
 
@@ -165,14 +128,9 @@ fn type0_legacy_gpu(s: &[u8]) -> HeaderType
     requires { ⌜ 32 ≤ length (now s) ⌝ }
     ensures { λ r. ⌜ r ≡ typeFrom LegacyGpu (numbersOf (now (s .entry)) LegacyGpu) ⌝ }
 {
-    let stamp = legacy_stamp_of(s);
-    let status = status_at(s, 28);
     HeaderType::Type0LegacyGpu {
-        timestamp: stamp.timestamp,
-        agent_version: stamp.agent_version,
-        reason: stamp.reason,
-        completion_status: status.completion_status,
-        collection_complete: status.collection_complete,
+        stamp: legacy_stamp_of(s),
+        status: status_at(s, 28),
     }
 }
 
@@ -215,7 +173,7 @@ pub fn statuses_of(s: &[u8], layout: Layout) -> [u32; 127]
     ensures { λ r. ⌜ r ≡ statusesFrom (numbersOf (now (s .entry)) layout) ⌝ }
 {
     if let Layout::Six = layout {
-        return words_of(s, frame::count_of(s));
+        return words_of(s, header_judge::count_of(s));
     }
     [0u32; 127]
 }

@@ -1,4 +1,4 @@
--- `frame` and `decode` judge a header alike; the size and the declared bytes that a decode tells are those of its header.
+-- One try and a decode judge a header alike; the size and the declared bytes that a decode tells are those of its header.
 -- From what is known where a decode is done; a refusal's answer tells the refusal. Assumes nothing.
 use mathlib.Core.Path.{_≡_, refl, sym, ap, _∙_}
 use mathlib.Core.Bool.{Bool, true, cond}
@@ -8,20 +8,20 @@ use Prim.Native.Nat.{ℕ, _≤_, _<_}
 use lib.ListN.{length}
 use Rattle.rules.specs.Rules.{validOf, flagsOf}
 use Rattle.layout.specs.Fields.{Field, readAll}
-use Rattle.frame.specs.Version.{wordOf}
-use Rattle.frame.specs.Frame.{lacking, declaredOf, layoutOf, countOf, sizeFor, headOf, numberOf as headNumber}
-use Rattle.frame.specs.declared.Layout.{Layout}
-use Rattle.frame.specs.declared.Head.{Head}
-use Rattle.frame.specs.declared.Head.the-variants.{Record}
+use Rattle.header_judge.specs.Version.{wordOf}
+use Rattle.header_judge.specs.Head.{lacking, declaredOf, layoutOf, countOf, sizeFor, headOf, numberOf as headNumber}
+use Rattle.header_judge.specs.declared.Layout.{Layout}
+use Rattle.header_judge.specs.declared.Head.{Head}
+use Rattle.header_judge.specs.declared.Head.the-variants.{Record}
 use Rattle.header.specs.Layouts.{tableOf, typeFrom}
-use Rattle.header.specs.Header.{numbersOf, refusal, decodedFrom, decodedOf, numberOf}
+use Rattle.header.specs.Header.{numberOf, refusal, judgedFrom, judgedOf, numbersOf, decodedOf}
 use Rattle.header.specs.Access.{countIn, headerSize, recordBytes}
 use Rattle.header.specs.declared.Answer.{Answer}
 use Rattle.header.specs.declared.Decoded.{Decoded}
 use Rattle.header.specs.declared.Answer.the-variants.{Done, Ended, BadRules, BadHeader, BadType}
 use Rattle.header_laws.specs.Agree.{answerFor, decodedRecord}
 use Rattle.header_laws.proofs.Layouts.{layout-from, shape-read}
-use Rattle.header_laws.proofs.Found.{answer-of-head, decoded-of-record, done-found}
+use Rattle.header_laws.proofs.Done.{answer-of-head, decoded-of-record, done-known}
 
 -- the case of one try that an answer tells, where it tells a refusal
 refusedAs : Answer → Head
@@ -54,7 +54,7 @@ module _ (rules bs : List ℕ) where
     pub record-decoded : {word flags declared size : ℕ} → headOf rules bs ≡ Record word flags declared size → decodedOf rules bs ≡ decodedRecord bs word flags declared size
     record-decoded = decoded-of-record rules bs valid
 
-    -- ended, bad header and bad type: the one gives them where the other does
+    -- noWord, bad header and bad type: the one gives them where the other does
     pub refusals-agree : (h : Head) → (answerFor h ≡ Done → ⊥) → (headOf rules bs ≡ h) ↔ (decodedOf rules bs .answer ≡ answerFor h)
     refusals-agree h f = (
       λ e. answer-of-head rules bs valid ∙ ap answerFor e,
@@ -70,30 +70,30 @@ module _ (rules bs : List ℕ) where
   module _ (done : d .answer ≡ Done) where
     -- a record that is decoded is one that one try finds
     pub decoded-record : headOf rules bs ≡ Record (wordOf bs) (d .flags) (d .declared) (d .«header_size»)
-    decoded-record = let found = done-found rules bs done in rw (found .decoded) (found .head)
+    decoded-record = let found = done-known rules bs done in rw (found .decoded) (found .head)
 
     -- ---- the header itself
 
     pub header-size-decoded : d .«header_size» ≡ headerSize (d .header .«header_type»)
     header-size-decoded =
-        let found = done-found rules bs done in
+        let found = done-known rules bs done in
         rw (found .decoded) (found .size ∙ sym (size-read bs (layoutOf (wordOf bs) (flagsOf rules (wordOf bs))) (found .some) (found .room)))
 
     pub declared-decoded : d .declared ≡ recordBytes (d .header) (d .flags)
     unfolding declaredOf
-    declared-decoded = rw (done-found rules bs done .decoded)
+    declared-decoded = rw (done-known rules bs done .decoded)
 
 -- ---- by document 01's numbers
 
-number-from : (bs : List ℕ) (h : Head) → numberOf (decodedFrom bs h .answer) ≡ headNumber h
-unfolding decodedFrom
-number-from bs Head.Ended = refl
-number-from bs Head.BadHeader = refl
-number-from bs (Head.BadType t) = refl
-number-from bs (Record word flags declared size) = refl
+number-from : (h : Head) → numberOf (judgedFrom h .answer) ≡ headNumber h
+unfolding judgedFrom
+number-from Head.Ended = refl
+number-from Head.BadHeader = refl
+number-from (Head.BadType t) = refl
+number-from (Record word flags declared size) = refl
 
 -- one try and decode answer with the same number
 pub numbers-agree : (rules bs : List ℕ) → validOf rules ≡ true → numberOf (decodedOf rules bs .answer) ≡ headNumber (headOf rules bs)
-unfolding decodedOf
+unfolding decodedOf judgedOf
 numbers-agree rules bs valid =
-    ap (λ (good : Bool). numberOf (cond good (decodedFrom bs (headOf rules bs)) (refusal BadRules) .answer)) valid ∙ number-from bs (headOf rules bs)
+    ap (λ (good : Bool). numberOf (cond good (judgedFrom (headOf rules bs)) (refusal BadRules) .answer)) valid ∙ number-from (headOf rules bs)

@@ -1,12 +1,13 @@
 -- A yes/no as a bit, and numbers that share a field with one: what is put together is taken apart again, and the other way round.
 -- By arithmetic. Assumes nothing.
-use mathlib.Core.Path.{_≡_, refl, ap}
+use mathlib.Core.Path.{_≡_, refl, ap, ap₂}
 use mathlib.Core.Bool.{Bool, true, false}
-use Prim.Native.Nat.{ℕ, zero, suc, _/_, _%_, _^_, _≤_, _<_}
+use Prim.Native.Nat.{ℕ, zero, suc, _+_, _*_, _/_, _%_, _^_, _≤_, _<_}
 use native.Mathlib.Omega.{arith}
 use lib.Dec.{eqb}
-use Rattle.frame.specs.Version.{bit}
-use Rattle.header.specs.Layouts.{status, complete, statusWord, lowCount, completeHalf, countHalf}
+use Rattle.header_judge.specs.Version.{bit}
+use Rattle.header.specs.Layouts.{statusOf, statusWord, lowCount, completeHalf, countHalf}
+use Rattle.header.specs.declared.Status.{Status}
 use Rattle.header_laws.specs.Rounds.{cleanHalf}
 
 -- ---- a bit as a yes/no
@@ -26,16 +27,22 @@ bit-le false = omega arith
 
 -- ---- a status and complete
 
-pub status-low : (s : ℕ) (c : Bool) → s < 2147483648 → status (statusWord s c) ≡ s
+status-low : (s : ℕ) (c : Bool) → s < 2147483648 → (s + bit c * 2147483648) % 2147483648 ≡ s
 status-low s c h = omega (arith, bit-le c)
 
-pub status-top : (s : ℕ) (c : Bool) → s < 2147483648 → complete (statusWord s c) ≡ c
-status-top s c h = eqb-bit c (statusWord s c / 2147483648 % 2) (omega (arith, bit-le c))
+status-top : (s : ℕ) (c : Bool) → s < 2147483648 → eqb ((s + bit c * 2147483648) / 2147483648 % 2) 1 ≡ c
+status-top s c h = eqb-bit c ((s + bit c * 2147483648) / 2147483648 % 2) (omega (arith, bit-le c))
 
-pub status-lt : (s : ℕ) (c : Bool) → s < 2147483648 → statusWord s c < 256 ^ 4
-status-lt s c h = omega (arith, bit-le c)
+module _ (s : Status) (h : s .«completion_status» < 2147483648) where
+  pub status-apart : statusOf (statusWord s) ≡ s
+  status-apart =
+      ap₂ (λ (n : ℕ) (b : Bool). record { «completion_status» = n; «collection_complete» = b })
+      (status-low (s .«completion_status») (s .«collection_complete») h) (status-top (s .«completion_status») (s .«collection_complete») h)
 
-pub status-back : (w : ℕ) → w < 256 ^ 4 → statusWord (status w) (complete w) ≡ w
+  pub status-lt : statusWord s < 256 ^ 4
+  status-lt = omega (arith, bit-le (s .«collection_complete»))
+
+pub status-back : (w : ℕ) → w < 256 ^ 4 → statusWord (statusOf w) ≡ w
 status-back w h = rw (bit-eqb (w / 2147483648 % 2) (omega arith)) (omega arith)
 
 -- ---- a count and complete

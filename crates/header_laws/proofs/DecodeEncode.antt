@@ -12,26 +12,26 @@ use Rattle.layout.specs.Fields.{Field, readAll}
 use Rattle.basics.proofs.Bools.{both}
 use Rattle.layout.proofs.Full.{read-full, length-bytes}
 use Rattle.rules.specs.Rules.{validOf, flagsOf}
-use Rattle.frame.specs.Version.{ended, wordOf, revision, versionOf, InBits, wordFrom}
-use Rattle.frame.specs.Frame.{legacy, declaredOf, layoutOf, sizesEnd, sizeFor, countOf, enough, sizeOf, headWith, headOf}
-use Rattle.frame.specs.declared.version.Version.{Version}
-use Rattle.frame.specs.declared.Layout.{Layout}
-use Rattle.frame.specs.declared.Head.the-variants.{Record}
-use Rattle.frame.proofs.Words.{word-there}
-use Rattle.frame.proofs.Heads.{head-record}
-use Rattle.frame.proofs.Sizes.{size-long, enough-there}
+use Rattle.header_judge.specs.Version.{noWord, endMark, wordOf, revision, versionOf, InBits, wordFrom}
+use Rattle.header_judge.specs.Head.{legacy, declaredOf, layoutOf, sizesEnd, sizeFor, countOf, enough, sizeOf, headWith, headOf}
+use Rattle.header_judge.specs.declared.version.Version.{Version}
+use Rattle.header_judge.specs.declared.Layout.{Layout}
+use Rattle.header_judge.specs.declared.Head.the-variants.{Record}
+use Rattle.header_judge.proofs.Words.{word-there}
+use Rattle.header_judge.proofs.Heads.{head-record}
+use Rattle.header_judge.proofs.Sizes.{size-long, enough-there}
 use Rattle.header.specs.Layouts.{tableOf, padded}
 use Rattle.header.specs.Header.{headerOf, decodedOf}
 use Rattle.header.specs.Access.{layoutIn, countIn, headerSize, recordBytes}
 use Rattle.header.specs.declared.Header.{Header}
 use Rattle.header.specs.declared.HeaderType.{HeaderType}
 use Rattle.header.specs.declared.Answer.the-variants.{Done}
-use Rattle.header_bytes.specs.Values.{valuesFor, valuesOf, headerBytes}
-use Rattle.header_bytes.specs.Fit.{fieldsFit}
-use Rattle.encode.specs.Encode.{encodable, encodedOf}
-use Rattle.encode.specs.declared.Encoded.{Encoded}
-use Rattle.encode.proofs.Fitting.{in-bits, can-version, can-read, can-choose, can-fit, can-count}
-use Rattle.encode.proofs.Tables.{tables-full, length-values}
+use Rattle.header_write.specs.Values.{valuesFor, valuesOf, headerBytes}
+use Rattle.header_write.specs.Fit.{fieldsFit}
+use Rattle.header_encode.specs.Encode.{encodable, encodedOf}
+use Rattle.header_encode.specs.declared.Encoded.{Encoded}
+use Rattle.header_encode.proofs.Fitting.{in-bits, can-version, can-read, can-choose, can-fit, can-count}
+use Rattle.header_encode.proofs.Tables.{tables-full, length-values}
 use Rattle.header_laws.specs.Typed.{Typed}
 use Rattle.header_laws.specs.Rounds.{cleared, decodedAs}
 use Rattle.header_laws.proofs.Version.{version-word, word-lt}
@@ -109,10 +109,10 @@ module _ (rules : List ℕ) (valid : validOf rules ≡ true) (h : Header) (can :
   shape-is : shapeFor l (countOf bs) ≡ shapeFor l n
   shape-is = sym (shape-read bs l n room) ∙ ap (λ (p : Parts). shapeFor l (countIn (p .fields))) parts-are
 
-  readable-word : (word ≡ ended → ⊥) × (word ≡ 0xdeadbeef → ⊥)
+  readable-word : (word ≡ noWord → ⊥) × (word ≡ endMark → ⊥)
   readable-word =
-      let q = both (not (eqb word ended)) (not (eqb word 0xdeadbeef)) (can-read rules h can) in
-      (eqb-false word ended (not-true (eqb word ended) (q .0)), eqb-false word 0xdeadbeef (not-true (eqb word 0xdeadbeef) (q .1)))
+      let q = both (not (eqb word noWord)) (not (eqb word endMark)) (can-read rules h can) in
+      (eqb-false word noWord (not-true (eqb word noWord) (q .0)), eqb-false word endMark (not-true (eqb word endMark) (q .1)))
 
   word-is : wordOf bs ≡ word
   word-is =

@@ -11,28 +11,28 @@ use Rattle.le.proofs.Laws.{le-lt}
 use Rattle.layout.specs.Fields.{Field, readAll, bytesOf}
 use Rattle.layout.proofs.Full.{bytes-read}
 use Rattle.rules.specs.Rules.{flagsOf}
-use Rattle.frame.specs.Version.{wordOf, revision, versionOf, wordFrom}
-use Rattle.frame.specs.Frame.{layoutOf, sizeFor, countOf}
-use Rattle.frame.specs.declared.Layout.{Layout}
+use Rattle.header_judge.specs.Version.{wordOf, revision, versionOf, wordFrom}
+use Rattle.header_judge.specs.Head.{layoutOf, sizeFor, countOf}
+use Rattle.header_judge.specs.declared.Layout.{Layout}
 use Rattle.header.specs.Layouts.{tableOf}
 use Rattle.header.specs.Header.{decodedOf}
 use Rattle.header.specs.Access.{layoutIn, countIn, headerSize}
 use Rattle.header.specs.declared.Header.{Header}
 use Rattle.header.specs.declared.Decoded.{Decoded}
 use Rattle.header.specs.declared.Answer.the-variants as decoded
-use Rattle.header_bytes.specs.Values.{valuesFor, valuesOf, headerBytes}
-use Rattle.header_bytes.specs.Fit.{fieldsFit}
-use Rattle.encode.specs.Encode.{versionFits, layoutNumber, encodable, answered, encodedOf}
-use Rattle.encode.specs.declared.Answer.the-variants.{Done}
-use Rattle.encode.proofs.Fitting.{as-fit}
-use Rattle.encode.proofs.Tables.{tables-full}
+use Rattle.header_write.specs.Values.{valuesFor, valuesOf, headerBytes}
+use Rattle.header_write.specs.Fit.{fieldsFit}
+use Rattle.header_encode.specs.Encode.{versionFits, layoutNumber, encodable, answered, encodedOf}
+use Rattle.header_encode.specs.declared.Answer.the-variants.{Done}
+use Rattle.header_encode.proofs.Fitting.{as-fit}
+use Rattle.header_encode.proofs.Tables.{tables-full}
 use Rattle.header_laws.specs.Typed.{Bytes}
 use Rattle.header_laws.specs.Rounds.{unreadZero, restored}
 use Rattle.header_laws.proofs.Version.{word-version}
 use Rattle.header_laws.proofs.Layouts.{layout-from, shapeFor, shape-read}
 use Rattle.header_laws.proofs.Numbers.{Parts, headerWith, partsAt, header-read}
 use Rattle.header_laws.proofs.Unread.{fits-read, values-read, unread-bytes}
-use Rattle.header_laws.proofs.Found.{Found, done-found}
+use Rattle.header_laws.proofs.Done.{Known, done-known}
 use Rattle.header_laws.proofs.Agree.{header-size-decoded}
 use Rattle.header_laws.proofs.Encoded.{encoded-is}
 
@@ -42,7 +42,7 @@ version-fits word =
     rw (lt-ltb (word % 256) 256 (omega arith), lt-ltb (word / 256 % 16) 16 (omega arith), lt-ltb (word / 4096 % 4096) 4096 (omega arith))
     (lt-ltb (word / 16777216 % 64) 64 (omega arith))
 
-module _ (rules bs : List ℕ) (bytes : Bytes bs) (found : Found rules bs) where
+module _ (rules bs : List ℕ) (bytes : Bytes bs) (found : Known rules bs) where
   abbrev word : ℕ
   word = wordOf bs
 
@@ -102,16 +102,16 @@ module _ (rules bs : List ℕ) (bytes : Bytes bs) (done : decodedOf rules bs .an
 
   -- encode takes every header that was decoded
   pub decoded-encodable : encodable rules (d .header) ≡ true
-  decoded-encodable = let found = done-found rules bs done in rw (header-is rules bs bytes found) (can rules bs bytes found)
+  decoded-encodable = let found = done-known rules bs done in rw (header-is rules bs bytes found) (can rules bs bytes found)
 
   -- its bytes are those that it was decoded from, unread bits as 0
   pub bytes-restored : headerBytes (d .header) ≡ restored (d .header .«header_type») bs
-  bytes-restored = let found = done-found rules bs done in rw (header-is rules bs bytes found) (bytes-are rules bs bytes found)
+  bytes-restored = let found = done-known rules bs done in rw (header-is rules bs bytes found) (bytes-are rules bs bytes found)
 
   -- encode after decode
   pub encode-decode : (out : List ℕ) → d .«header_size» ≤ length out
       → encodedOf rules (d .header) out ≡ (restored (d .header .«header_type») bs ++ drop (d .«header_size») out, answered Done (d .«header_size»))
   encode-decode out room =
       let size : d .«header_size» ≡ headerSize (d .header .«header_type») = header-size-decoded rules bs done in
-      encoded-is rules (done-found rules bs done .valid) (d .header) decoded-encodable out (omega arith)
+      encoded-is rules (done-known rules bs done .valid) (d .header) decoded-encodable out (omega arith)
       ∙ ap₂ (λ (b : List ℕ) (z : ℕ). (b ++ drop z out, answered Done z)) bytes-restored (sym size)

@@ -9,9 +9,9 @@ use borrow.Author.Tests.{le-leb}
 use Rattle.rules.specs.Rules.{validOf}
 use Rattle.header.specs.Access.{headerSize}
 use Rattle.header.specs.declared.Header.{Header}
-use Rattle.header_bytes.specs.Values.{headerBytes}
-use Rattle.encode.specs.Encode.{encodable, answered, encodedOf}
-use Rattle.encode.specs.declared.Answer.the-variants.{Done}
+use Rattle.header_write.specs.Values.{headerBytes}
+use Rattle.header_encode.specs.Encode.{encodable, answered, encodedOf}
+use Rattle.header_encode.specs.declared.Answer.the-variants.{Done}
 
 pub encoded-is : (rules : List ℕ) → validOf rules ≡ true → (h : Header) → encodable rules h ≡ true → (out : List ℕ) → headerSize (h .«header_type») ≤ length out
     → encodedOf rules h out ≡ (headerBytes h ++ drop (headerSize (h .«header_type»)) out, answered Done (headerSize (h .«header_type»)))

@@ -11,16 +11,16 @@ use borrow.Author.Tests.{eqb-true}
 use Rattle.le.specs.Le.{le}
 use Rattle.layout.specs.Fields.{Field, readAll}
 use Rattle.rules.specs.Rules.{has, legacyServer, legacyGpu}
-use Rattle.frame.specs.Version.{headerType}
-use Rattle.frame.specs.Frame.{legacy, typeLayout, layoutOf, lacking, sizeFor, countOf}
-use Rattle.frame.specs.declared.Layout.{Layout}
-use Rattle.frame.specs.declared.Layout.the-variants.{Zero, One, Two, Three, Four, Five, Six, LegacyServer, LegacyGpu, Bad}
-use Rattle.frame.proofs.Sizes.{count-there}
+use Rattle.header_judge.specs.Version.{headerType}
+use Rattle.header_judge.specs.Head.{legacy, typeLayout, layoutOf, lacking, sizeFor, countOf}
+use Rattle.header_judge.specs.declared.Layout.{Layout}
+use Rattle.header_judge.specs.declared.Layout.the-variants.{Zero, One, Two, Three, Four, Five, Six, LegacyServer, LegacyGpu, Bad}
+use Rattle.header_judge.proofs.Sizes.{count-there}
 use Rattle.header.specs.Layouts.{tableOf, typeFrom}
 use Rattle.header.specs.Access.{layoutIn, countIn, headerSize}
 use Rattle.header.specs.declared.HeaderType.{HeaderType}
 use Rattle.header.specs.declared.HeaderType.the-variants.{Type0, Type1, Type2, Type3, Type4, Type5, Type6, Type0LegacyServer, Type0LegacyGpu}
-use Rattle.encode.specs.Encode.{layoutNumber}
+use Rattle.header_encode.specs.Encode.{layoutNumber}
 
 -- ---- the layout and the count of the fields that are read
 
@@ -93,13 +93,13 @@ legacy-layout word flags = by (has flags legacyServer) (has flags legacyGpu)
 pub sizes-within : (t : HeaderType) → cond (isLegacy (layoutIn t)) 18 8 ≤ headerSize t
 sizes-within Type0 = omega arith
 sizes-within Type1 = omega arith
-sizes-within (Type2 t a r) = omega arith
-sizes-within (Type3 t a r s c) = omega arith
-sizes-within (Type4 t a r w m) = omega arith
-sizes-within (Type5 t a r s c e) = omega arith
-sizes-within (Type6 t a r d k n c) = omega arith
-sizes-within (Type0LegacyServer t a r d k s c) = omega arith
-sizes-within (Type0LegacyGpu t a r s c) = omega arith
+sizes-within (Type2 p) = omega arith
+sizes-within (Type3 p s) = omega arith
+sizes-within (Type4 p w m) = omega arith
+sizes-within (Type5 p s e) = omega arith
+sizes-within (Type6 p d k n c) = omega arith
+sizes-within (Type0LegacyServer p d k s) = omega arith
+sizes-within (Type0LegacyGpu p s) = omega arith
 
 -- ---- layouts by their number
 

@@ -2,7 +2,7 @@ pub mod Bits
 pub mod Layouts
 pub mod Numbers
 pub mod Unread
-pub mod Found
+pub mod Done
 pub mod Encoded
 pub mod Version
 pub mod Agree

@@ -3,7 +3,7 @@
 use mathlib.Core.Path.{_≡_, refl, sym, ap, _∙_}
 use mathlib.Core.Bool.{true}
 use mathlib.Core.List.{List}
-use Prim.Native.Nat.{ℕ, _-_, _^_, _≤_, _<_}
+use Prim.Native.Nat.{ℕ, _-_, _%_, _^_, _≤_, _<_}
 use native.Mathlib.Omega.{arith}
 use lib.ListN.{length, take, set, replicate}
 use lib.Seq.{take-at}
@@ -14,16 +14,16 @@ use Rattle.layout.specs.Fields.{Field, readAll}
 use Rattle.layout.specs.Runs.{cells}
 use Rattle.layout.proofs.Full.{full-fits}
 use Rattle.layout.proofs.Puts.{fieldAt, read-put, put-bytes}
-use Rattle.frame.specs.Version.{revision}
-use Rattle.frame.specs.Frame.{lacking, sizeFor, countOf}
-use Rattle.frame.specs.declared.Layout.{Layout}
-use Rattle.frame.specs.declared.Layout.the-variants.{Zero, One, Two, Three, Four, Five, Six, LegacyServer, LegacyGpu, Bad}
-use Rattle.frame.proofs.Sizes.{count-there}
-use Rattle.header.specs.Layouts.{tableOf, status, lowCount, serverDie, padded}
+use Rattle.header_judge.specs.Version.{revision}
+use Rattle.header_judge.specs.Head.{lacking, sizeFor, countOf}
+use Rattle.header_judge.specs.declared.Layout.{Layout}
+use Rattle.header_judge.specs.declared.Layout.the-variants.{Zero, One, Two, Three, Four, Five, Six, LegacyServer, LegacyGpu, Bad}
+use Rattle.header_judge.proofs.Sizes.{count-there}
+use Rattle.header.specs.Layouts.{tableOf, lowCount, serverDie, padded}
 use Rattle.header.proofs.Statuses.{length-words}
-use Rattle.header_bytes.specs.Fit.{fieldsFit}
-use Rattle.header_bytes.specs.Values.{valuesFor}
-use Rattle.encode.proofs.Tables.{tables-full}
+use Rattle.header_write.specs.Fit.{fieldsFit}
+use Rattle.header_write.specs.Values.{valuesFor}
+use Rattle.header_encode.proofs.Tables.{tables-full}
 use Rattle.header_laws.specs.Typed.{Bytes}
 use Rattle.header_laws.specs.Rounds.{cleanHalf, unreadZero}
 use Rattle.header_laws.proofs.Bits.{status-back, half-back}
@@ -45,14 +45,14 @@ unfolding readAll
 fits-read bs Zero n = refl
 fits-read bs One n = refl
 fits-read bs Two n = refl
-fits-read bs Three n = lt-ltb (status (le 4 bs 24)) 2147483648 (omega arith)
+fits-read bs Three n = lt-ltb (le 4 bs 24 % 2147483648) 2147483648 (omega arith)
 fits-read bs Four n = refl
-fits-read bs Five n = lt-ltb (status (le 4 bs 24)) 2147483648 (omega arith)
+fits-read bs Five n = lt-ltb (le 4 bs 24 % 2147483648) 2147483648 (omega arith)
 fits-read bs Six n = le-leb (lowCount (le 2 bs 26)) 127 (omega arith)
 fits-read bs LegacyServer n =
     let die = serverDie (revision (le 4 bs 0)) in
-    rw (lt-ltb (status (le 4 bs 28)) 2147483648 (omega arith)) (eq-eqb die die refl)
-fits-read bs LegacyGpu n = rw (lt-ltb (status (le 4 bs 28)) 2147483648 (omega arith))
+    rw (lt-ltb (le 4 bs 28 % 2147483648) 2147483648 (omega arith)) (eq-eqb die die refl)
+fits-read bs LegacyGpu n = rw (lt-ltb (le 4 bs 28 % 2147483648) 2147483648 (omega arith))
 fits-read bs Bad n = refl
 
 -- ---- the numbers of a header that was read

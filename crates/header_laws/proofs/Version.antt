@@ -4,8 +4,8 @@ use mathlib.Core.Path.{_≡_, sym, ap, _∙_}
 use Prim.Native.Nat.{ℕ, _+_, _*_, _/_, _%_, _^_, _<_}
 use native.Mathlib.Nat.{div-div-eq-div-mul, div-add-mod'}
 use native.Mathlib.Omega.{arith}
-use Rattle.frame.specs.Version.{versionOf, InBits, bit, wordFrom}
-use Rattle.frame.specs.declared.version.Version.{Version}
+use Rattle.header_judge.specs.Version.{versionOf, InBits, bit, wordFrom}
+use Rattle.header_judge.specs.declared.version.Version.{Version}
 use Rattle.header_laws.proofs.Bits.{bit-eqb, eqb-bit, bit-le}
 
 -- ---- the word of a word's fields

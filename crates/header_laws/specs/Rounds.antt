@@ -4,9 +4,9 @@ use mathlib.Core.List.{List}
 use lib.ListN.{take}
 use Rattle.le.specs.Le.{le, put}
 use Rattle.rules.specs.Rules.{flagsOf}
-use Rattle.frame.specs.Version.{wordFrom}
-use Rattle.frame.specs.declared.Layout.{Layout}
-use Rattle.frame.specs.declared.Layout.the-variants.{Zero, One, Two, Three, Four, Five, Six, LegacyServer, LegacyGpu, Bad}
+use Rattle.header_judge.specs.Version.{wordFrom}
+use Rattle.header_judge.specs.declared.Layout.{Layout}
+use Rattle.header_judge.specs.declared.Layout.the-variants.{Zero, One, Two, Three, Four, Five, Six, LegacyServer, LegacyGpu, Bad}
 use Rattle.header.specs.Layouts.{padded}
 use Rattle.header.specs.Access.{layoutIn, countIn, headerSize, recordBytes}
 use Rattle.header.specs.declared.Header.{Header}

@@ -4,6 +4,8 @@ use mathlib.Core.List.{List}
 use Prim.Native.Nat.{ℕ, _^_, _<_}
 use lib.ListN.{length, getD}
 use Rattle.header.specs.declared.Header.{Header}
+use Rattle.header.specs.declared.Stamp.{Stamp}
+use Rattle.header.specs.declared.Status.{Status}
 use Rattle.header.specs.declared.HeaderType.{HeaderType}
 use Rattle.header.specs.declared.HeaderType.the-variants.{Type0, Type1, Type2, Type3, Type4, Type5, Type6, Type0LegacyServer, Type0LegacyGpu}
 
@@ -23,17 +25,23 @@ U64 x = x < 2 ^ 64
 
 -- ---- a header
 
+abbrev pub TypedStamp : Stamp → Type 0
+TypedStamp p = U64 (p .timestamp) × U32 (p .«agent_version») × U32 (p .reason)
+
+abbrev pub TypedStatus : Status → Type 0
+TypedStatus s = U32 (s .«completion_status»)
+
 -- the fields of a layout, in their order; a yes/no says nothing
 abbrev pub TypedFields : HeaderType → Type 0
 TypedFields Type0 = Unit {0}
 TypedFields Type1 = Unit {0}
-TypedFields (Type2 t a r) = U64 t × U32 a × U32 r
-TypedFields (Type3 t a r s c) = U64 t × U32 a × U32 r × U32 s
-TypedFields (Type4 t a r w m) = U64 t × U32 a × U32 r × U32 w × U32 m
-TypedFields (Type5 t a r s c e) = U64 t × U32 a × U32 r × U32 s × U32 e
-TypedFields (Type6 t a r d k n c) = U64 t × U32 a × U32 r × U8 d × U8 k × U16 n
-TypedFields (Type0LegacyServer t a r d k s c) = U64 t × U32 a × U32 r × U8 d × U8 k × U32 s
-TypedFields (Type0LegacyGpu t a r s c) = U64 t × U32 a × U32 r × U32 s
+TypedFields (Type2 p) = TypedStamp p
+TypedFields (Type3 p s) = TypedStamp p × TypedStatus s
+TypedFields (Type4 p w m) = TypedStamp p × U32 w × U32 m
+TypedFields (Type5 p s e) = TypedStamp p × TypedStatus s × U32 e
+TypedFields (Type6 p d k n c) = TypedStamp p × U8 d × U8 k × U16 n
+TypedFields (Type0LegacyServer p d k s) = TypedStamp p × U8 d × U8 k × TypedStatus s
+TypedFields (Type0LegacyGpu p s) = TypedStamp p × TypedStatus s
 
 -- all of a header; there are 127 status words
 pub record Typed (h : Header) : Type 0 where

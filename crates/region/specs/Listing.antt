@@ -1,16 +1,20 @@
 -- The listing as a function of the bytes, the rules, the limit and the table (document 01, 'The nested listing').
-use Prim.Native.Nat.{ℕ, zero, suc, _*_, _/_}
-use mathlib.Core.List.{List, [], _∷_, _++_}
+use Prim.Native.Nat.{ℕ, zero, suc}
+use mathlib.Core.List.{List, [], _∷_}
 use mathlib.Core.Bool.{Bool, true, false, cond, _&&_}
 use lib.Dec.{eqb, ltb}
-use lib.ListN.{length, drop}
+use lib.ListN.{length}
+use Rattle.answers.specs.Numbers as answer
+use Rattle.answers.specs.Numbers.{mostBytes}
 use Rattle.rules.specs.Rules.{validOf}
-use Rattle.frame.specs.declared.Head.{Head}
-use Rattle.frame.specs.declared.Head.the-variants.{Ended, BadHeader as HeadBad, BadType as HeadBadType, Record}
-use Rattle.frame.specs.Frame.{headOf}
-use Rattle.tries.specs.Trace.{Span, numbers, Visit, none, hit, allTries}
-use Rattle.tries.specs.declared.Cut.{Cut}
-use Rattle.tries.specs.declared.Cut.the-variants.{Going, Full, Spent}
+use Rattle.header_judge.specs.declared.Head.{Head}
+use Rattle.header_judge.specs.declared.Head.the-variants.{Ended, BadHeader as HeadBad, BadType as HeadBadType, Record}
+use Rattle.header_judge.specs.Head.{headOf}
+use Rattle.region_rows.specs.declared.Span.{Span}
+use Rattle.region_rows.specs.Rows.{capacity, laid}
+use Rattle.region_try.specs.Tries.{Try, none, hit, allTries}
+use Rattle.region_try.specs.declared.Cut.{Cut}
+use Rattle.region_try.specs.declared.Cut.the-variants.{Going, Full, Spent}
 use Rattle.region.specs.declared.Answer.{Answer}
 use Rattle.region.specs.declared.Answer.the-variants.{Done, TooLong, BadRules, BadHeader, BadType, Empty, SpansFull, TriesSpent}
 use Rattle.region.specs.declared.Listing.{Listing}
@@ -19,14 +23,14 @@ use Rattle.region.specs.declared.Listing.{Listing}
 
 -- document 01's number of each answer
 abbrev pub numberOf : Answer → ℕ
-numberOf Done = 0
-numberOf TooLong = 1
-numberOf BadRules = 2
-numberOf BadHeader = 3
-numberOf (BadType t) = 4
-numberOf Empty = 5
-numberOf SpansFull = 6
-numberOf TriesSpent = 7
+numberOf Done = answer.done
+numberOf TooLong = answer.tooLong
+numberOf BadRules = answer.badRules
+numberOf BadHeader = answer.badHeader
+numberOf (BadType t) = answer.badType
+numberOf Empty = answer.empty
+numberOf SpansFull = answer.spansFull
+numberOf TriesSpent = answer.triesSpent
 
 -- the value that comes with it: the bad type; 0 where there is none
 abbrev pub typeOf : Answer → ℕ
@@ -69,25 +73,12 @@ abbrev pub triedRow : Span → Shown → Shown
 triedRow r s = record { rows = r ∷ s .rows; tries = suc (s .tries); cut = s .cut }
 
 -- the tries up to the limit; a record for which no row is free ends them
-unfoldable pub shown : ℕ → ℕ → List Visit → Shown
+unfoldable pub shown : ℕ → ℕ → List Try → Shown
 shown limit room [] = record { rows = []; tries = 0; cut = Going }
 shown zero room (v ∷ vs) = record { rows = []; tries = 0; cut = Spent }
 shown (suc limit) room (none offset head ∷ vs) = tried (shown limit room vs)
 shown (suc limit) zero (hit r ∷ vs) = record { rows = []; tries = 1; cut = Full }
 shown (suc limit) (suc room) (hit r ∷ vs) = triedRow r (shown limit room vs)
-
--- the rows that a table has
-abbrev pub capacity : List ℕ → ℕ
-capacity t = length t / 8
-
--- the numbers of some rows, row after row
-unfoldable pub flat : List Span → List ℕ
-flat [] = []
-flat (r ∷ rs) = numbers r ++ flat rs
-
--- a table with rows laid at its start
-unfoldable pub laid : List Span → List ℕ → List ℕ
-laid rs t = flat rs ++ drop (length rs * 8) t
 
 -- does no row hold less than it declares?
 unfoldable pub noneShort : List Span → Bool
@@ -112,17 +103,16 @@ listingOf head s =
 abbrev pub refusal : Answer → Listing
 refusal answer = record { answer = answer; rows = 0; tries = 0; whole = false }
 
-abbrev pub mostBytes : ℕ
-mostBytes = 1048576
+-- the table with the rows laid at its start, and the listing
+abbrev pub showing : List ℕ → List ℕ → List ℕ → Shown → List ℕ × Listing
+showing rules bytes t s = (laid (s .rows) t, listingOf (headOf rules bytes) s)
 
--- the table at the end, where the work is done
-unfoldable pub worked : List ℕ → List ℕ → ℕ → List ℕ → List ℕ × Listing
-worked rules bytes limit t =
-    let s = shown limit (capacity t) (allTries rules bytes) in
-    (laid (s .rows) t, listingOf (headOf rules bytes) s)
+-- the table and the listing at the end, where nothing is refused
+unfoldable pub walked : List ℕ → List ℕ → ℕ → List ℕ → List ℕ × Listing
+walked rules bytes limit t = showing rules bytes t (shown limit (capacity t) (allTries rules bytes))
 
--- the table at the end, and the answer; the length is judged first, then the rules
+-- the table and the listing at the end; the length is judged first, then the rules
 unfoldable pub listed : List ℕ → List ℕ → ℕ → List ℕ → List ℕ × Listing
 listed rules bytes limit t =
     cond (ltb mostBytes (length bytes)) (t, refusal TooLong)
-    (cond (validOf rules) (worked rules bytes limit t) (t, refusal BadRules))
+    (cond (validOf rules) (walked rules bytes limit t) (t, refusal BadRules))

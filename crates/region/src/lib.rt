@@ -1,18 +1,14 @@
 // The nested listing of a region: what is refused, the walk from the top, and its answer.
 ghost use mathlib.Core.Path.{_≡_};
-ghost use Prim.Native.Nat.{min, _/_};
-ghost use lib.Dec.{eqb};
-ghost use Rattle.frame.specs.Frame.{headOf};
-ghost use Rattle.region.specs.Listing.{numberOf, answerFirst, answerOf, refusal, listed};
-use tries::Cut;
-use tries::NUMBERS_IN_ROW;
-use walk::DEEPEST;
-
-// The longest region.
-const MOST_BYTES: usize = 1048576;
-
-// The parent row at the top. No row has this number: at most TOP - 1 rows are used.
-const TOP: u32 = 4294967295;
+ghost use Prim.Native.Nat.{_*_, _≤_, _<_};
+ghost use lib.ListN.{length};
+ghost use Rattle.header_judge.specs.Head.{headOf};
+ghost use Rattle.region_rows.specs.Rows.{width};
+ghost use Rattle.region.specs.Listing.{numberOf, typeOf, answerFirst, answerOf, refusal, listed};
+use answers::MOST_BYTES;
+use region_rows::TOP;
+use region_try::Cut;
+use region_walk::DEEPEST;
 
 // What a listing answers.
 pub enum Answer {
@@ -37,12 +33,12 @@ pub struct Listing {
 fn answer_first(region: &[u8], rules: &[u32]) -> Answer
     ensures { λ r. ⌜ r ≡ answerFirst (headOf (now (rules .entry)) (now (region .entry))) ⌝ }
 {
-    let head = frame::frame(region, rules);
+    let head = header_judge::judge(region, rules);
     match head {
-        frame::Head::Ended => Answer::Empty,
-        frame::Head::BadHeader => Answer::BadHeader,
-        frame::Head::BadType(t) => Answer::BadType(t),
-        frame::Head::Record { .. } => Answer::Empty,
+        header_judge::Head::Ended => Answer::Empty,
+        header_judge::Head::BadHeader => Answer::BadHeader,
+        header_judge::Head::BadType(t) => Answer::BadType(t),
+        header_judge::Head::Record { .. } => Answer::Empty,
     }
 }
 
@@ -62,18 +58,40 @@ fn answer_of(region: &[u8], rules: &[u32], cut: Cut, rows: u32) -> Answer
     }
 }
 
-// Whether the answer is 0.
-fn is_done(answer: Answer) -> bool
-    ensures { λ r. ⌜ r ≡ eqb (numberOf answer) 0 ⌝ }
+// Document 01's number of an answer.
+pub fn number_of(answer: Answer) -> u32
+    ensures { λ r. ⌜ (r ≡ numberOf answer) × (r < 8) ⌝ }
 {
     match answer {
-        Answer::Done => true,
-        _ => false,
+        Answer::Done => answers::DONE,
+        Answer::TooLong => answers::TOO_LONG,
+        Answer::BadRules => answers::BAD_RULES,
+        Answer::BadHeader => answers::BAD_HEADER,
+        Answer::BadType(_) => answers::BAD_TYPE,
+        Answer::Empty => answers::EMPTY,
+        Answer::SpansFull => answers::SPANS_FULL,
+        Answer::TriesSpent => answers::TRIES_SPENT,
+    }
+}
+
+// The type that comes with a bad type, else 0.
+pub fn type_of(answer: Answer) -> u32
+    ensures { λ r. ⌜ r ≡ typeOf answer ⌝ }
+{
+    match answer {
+        Answer::BadType(header_type) => header_type,
+        Answer::Done => 0,
+        Answer::TooLong => 0,
+        Answer::BadRules => 0,
+        Answer::BadHeader => 0,
+        Answer::Empty => 0,
+        Answer::SpansFull => 0,
+        Answer::TriesSpent => 0,
     }
 }
 
 // A refusal before any work.
-fn refused(answer: Answer) -> Listing
+pub fn refused(answer: Answer) -> Listing
     ensures { λ r. ⌜ r ≡ refusal answer ⌝ }
 {
     Listing {
@@ -84,16 +102,10 @@ fn refused(answer: Answer) -> Listing
     }
 }
 
-// The rows that a table of so many numbers has, TOP - 1 at most.
-fn room_of(numbers: usize) -> u32
-    ensures { λ r. ⌜ r ≡ min (numbers / 8) 4294967294 ⌝ }
-{
-    tries::least(numbers / NUMBERS_IN_ROW, (TOP - 1) as usize) as u32
-}
-
-// The nested listing of a region.
+// The nested listing of a region; its rows fit the table.
 pub fn list(region: &[u8], rules: &[u32], limit: u64, spans: &mut [u32]) -> Listing
     ensures { λ r. ⌜ (now (spans .exit), r) ≡ listed (now (rules .entry)) (now (region .entry)) limit (now (spans .entry)) ⌝ }
+    ensures { λ r. ⌜ r .rows * width ≤ length (now (spans .entry)) ⌝ }
 {
     if MOST_BYTES < region.len() {
         return refused(Answer::TooLong);
@@ -101,14 +113,10 @@ pub fn list(region: &[u8], rules: &[u32], limit: u64, spans: &mut [u32]) -> List
     if !rules::valid(rules) {
         return refused(Answer::BadRules);
     }
-    let columns = columns::columns_of(rules);
-    // as walk::LIMIT, ROOM and ROWS place them
-    let bounds = [
-        limit,
-        room_of(spans.len()) as u64,
-        (rules.len() / rules::NUMBERS_IN_ROW) as u64,
-    ];
-    let end = walk::region_walk(
+    let columns = rules::columns::columns_of(rules);
+    let rule_rows = rules.len() / rules::NUMBERS_IN_RULE;
+    let bounds = region_walk::bounds_of(limit, region_rows::room_of(spans), rule_rows);
+    let end = region_walk::region_walk(
         region,
         &columns,
         &bounds,
@@ -126,6 +134,6 @@ pub fn list(region: &[u8], rules: &[u32], limit: u64, spans: &mut [u32]) -> List
         answer: answer,
         rows: end.rows,
         tries: end.tries,
-        whole: is_done(answer) & end.whole,
+        whole: (number_of(answer) == answers::DONE) & end.whole,
     }
 }

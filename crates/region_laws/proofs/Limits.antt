@@ -3,24 +3,26 @@
 use mathlib.Core.Path.{_≡_, ap, _∙_}
 use mathlib.Core.List.{List, _++_}
 use mathlib.Core.Logic.{⊎-elim}
-use Prim.Native.Nat.{ℕ, _*_, _≤_, _<_, min}
+use Prim.Native.Nat.{ℕ, _≤_, _<_, min}
 use native.Mathlib.Omega.{arith}
 use lib.ListN.{length, take, drop}
-use Rattle.tries.specs.Trace.{Span, rowsIn, allTries}
-use Rattle.region.specs.Listing.{Shown, numberOf, shown, capacity, laid, worked, listed}
+use Rattle.region_rows.specs.declared.Span.{Span}
+use Rattle.region_try.specs.Tries.{rowsFound, allTries}
+use Rattle.region_rows.specs.Rows.{capacity, laid}
+use Rattle.region.specs.Listing.{Shown, numberOf, shown, showing, walked, listed}
 use Rattle.region.specs.declared.Listing.{Listing}
-use Rattle.tries.proofs.Orders.{le-or-lt}
-use Rattle.region.proofs.Shows.{listed-worked}
+use Rattle.basics.proofs.Orders.{le-or-lt}
+use Rattle.region.proofs.Shows.{listed-walked}
 use Rattle.region_laws.specs.Positions.{visited}
-use Rattle.region_laws.specs.Whole.{Accepted, allRows, rowsBy, Roomy, showing, wholeListing, cutListing}
+use Rattle.region_laws.specs.Whole.{Accepted, allRows, rowsBy, RoomForAll, mostOf, wholeListing, cutListing}
 use Rattle.region_laws.proofs.Shown.{tries-le-limit, rows-shown, all-shown, cut-shown, rows-le, rows-split}
 use Rattle.region_laws.proofs.Positions.{tries-visited}
 use Rattle.region_laws.proofs.Bounds.{visited-five-times}
 
 module _ (rules bytes : List ℕ) (t : List ℕ) (ok : Accepted rules bytes) where
   listed-showing : (limit : ℕ) → listed rules bytes limit t ≡ showing rules bytes t (shown limit (capacity t) (allTries rules bytes))
-  unfolding worked
-  listed-showing limit = listed-worked rules bytes limit t (ok .short) (ok .valid)
+  unfolding walked
+  listed-showing limit = listed-walked rules bytes limit t (ok .short) (ok .valid)
 
   -- ---- for any room
 
@@ -40,7 +42,7 @@ module _ (rules bytes : List ℕ) (t : List ℕ) (ok : Accepted rules bytes) whe
 
   -- ---- with room for every row
 
-  module _ (roomy : Roomy rules bytes t) (limit : ℕ) where
+  module _ (roomy : RoomForAll rules bytes t) (limit : ℕ) where
     -- a limit no smaller than the number of positions visited
     pub whole-listing : length (visited rules bytes) ≤ limit → listed rules bytes limit t ≡ wholeListing rules bytes t
     whole-listing h =
@@ -68,14 +70,14 @@ module _ (rules bytes : List ℕ) (t : List ℕ) (ok : Accepted rules bytes) whe
         (le-or-lt (length (visited rules bytes)) limit)
 
 -- five tries and five rows for each byte are always enough
-pub five-times-enough : (rules bytes t : List ℕ) → Accepted rules bytes → (limit : ℕ) → 5 * length bytes ≤ limit → 5 * length bytes ≤ capacity t
+pub five-times-enough : (rules bytes t : List ℕ) → Accepted rules bytes → (limit : ℕ) → mostOf (length bytes) ≤ limit → mostOf (length bytes) ≤ capacity t
     → listed rules bytes limit t ≡ wholeListing rules bytes t
 five-times-enough rules bytes t ok limit h g =
     let n : length (allTries rules bytes) ≡ length (visited rules bytes) = tries-visited rules bytes in
-    let m : length (visited rules bytes) ≤ 5 * length bytes = visited-five-times rules bytes in
+    let m : length (visited rules bytes) ≤ mostOf (length bytes) = visited-five-times rules bytes in
     let r : length (allRows rules bytes) ≤ length (allTries rules bytes) = rows-le (allTries rules bytes) in
     whole-listing rules bytes t ok (omega arith) limit (omega arith)
 
 -- the rows that a limit leaves begin those of the whole listing
 pub rows-begin-whole : (rules bytes : List ℕ) (limit : ℕ) → (rest : List Span) × (allRows rules bytes ≡ rowsBy limit rules bytes ++ rest)
-rows-begin-whole rules bytes limit = (rowsIn (drop limit (allTries rules bytes)), rows-split limit (allTries rules bytes))
+rows-begin-whole rules bytes limit = (rowsFound (drop limit (allTries rules bytes)), rows-split limit (allTries rules bytes))

@@ -6,46 +6,47 @@ use mathlib.Core.Bool.{Bool, true, false, cond}
 use Prim.Native.Nat.{ℕ, zero, suc, _+_, _-_}
 use lib.Dec.{eqb, leb}
 use lib.ListN.{length, take, drop}
-use Rattle.frame.specs.declared.Head.{Head}
-use Rattle.frame.specs.declared.Head.the-variants.{Ended, BadHeader, BadType, Record}
-use Rattle.frame.specs.Frame.{isBox, headOf}
-use Rattle.tries.specs.Trace.{Span, span, Visit, none, hit, visitOf, deepest, rowsIn, Inside as Tries, within, onward, records, boxTries, regionTries, allTries}
-use Rattle.region_laws.specs.Positions.{offsetOf, Inside, following, positions, inBox, visited}
+use Rattle.header_judge.specs.declared.Head.{Head}
+use Rattle.header_judge.specs.declared.Head.the-variants.{Ended, BadHeader, BadType, Record}
+use Rattle.header_judge.specs.Head.{isBox, headOf}
+use Rattle.region_rows.specs.declared.Span.{Span}
+use Rattle.region_try.specs.Tries.{spanOf, Try, none, hit, tryOf, deepest, rowsFound, Inside, within, onward, records, boxTries, regionTries, allTries}
+use Rattle.region_laws.specs.Positions.{offsetOf, InsideAt, following, positions, inBox, visited}
 
-abbrev offsets : List Visit → List ℕ
+abbrev offsets : List Try → List ℕ
 offsets vs = map offsetOf vs
 
-offsets-append : (us vs : List Visit) → offsets (us ++ vs) ≡ offsets us ++ offsets vs
+offsets-append : (us vs : List Try) → offsets (us ++ vs) ≡ offsets us ++ offsets vs
 offsets-append [] vs = refl
 offsets-append (u ∷ us) vs = ap (λ (l : List ℕ). offsetOf u ∷ l) (offsets-append us vs)
 
-length-offsets : (vs : List Visit) → length (offsets vs) ≡ length vs
+length-offsets : (vs : List Try) → length (offsets vs) ≡ length vs
 length-offsets [] = refl
 length-offsets (v ∷ vs) = ap suc (length-offsets vs)
 
 module _ (rules : List ℕ) where
   -- the tries inside a Box are made at its positions
-  abbrev Agree : Tries → Inside → Type 0
+  abbrev Agree : Inside → InsideAt → Type 0
   Agree box at = (held : List ℕ) (offset size row : ℕ) → offsets (box held offset size row) ≡ at held offset size
 
-  module _ (box : Tries) (inside : Inside) (agree : Agree box inside) where
+  module _ (box : Inside) (inside : InsideAt) (agree : Agree box inside) where
     within-at : (boxed : Bool) (held : List ℕ) (offset size row : ℕ) → offsets (cond boxed (box held offset size row) []) ≡ cond boxed (inside held offset size) []
     within-at true held offset size row = agree held offset size row
     within-at false held offset size row = refl
 
-    onward-at : (level parent offset : ℕ) (bs : List ℕ) (n : ℕ) (head : Head) (rest : ℕ → ℕ → List Visit) (after : ℕ → List ℕ)
+    onward-at : (level parent offset : ℕ) (bs : List ℕ) (n : ℕ) (head : Head) (rest : ℕ → ℕ → List Try) (after : ℕ → List ℕ)
         → ((k m : ℕ) → offsets (rest k m) ≡ after k)
-        → offsets (onward box bs n (visitOf level parent offset (length bs) head) rest) ≡ offset ∷ following inside bs offset head after
-    unfolding onward visitOf following
+        → offsets (onward box bs n (tryOf level parent offset (length bs) head) rest) ≡ offset ∷ following inside bs offset head after
+    unfolding onward tryOf following
     onward-at level parent offset bs n Ended rest after e = refl
     onward-at level parent offset bs n BadHeader rest after e = refl
     onward-at level parent offset bs n (BadType t) rest after e = refl
     onward-at level parent offset bs n (Record word flags declared size) rest after e = by (eqb declared 0)
       where
         row : Span
-        row = span level parent offset (length bs) word flags declared size
+        row = spanOf level parent offset (length bs) word flags declared size
 
-        tries : List Visit
+        tries : List Try
         tries = within box (take declared bs) row n
 
         by : (b : Bool)
@@ -54,8 +55,8 @@ module _ (rules : List ℕ) where
         by true = refl
         by false =
             ap (λ (l : List ℕ). offset ∷ l)
-            (offsets-append tries (rest (declared - 1) (n + 1 + length (rowsIn tries)))
-            ∙ ap₂ (λ (a b : List ℕ). a ++ b) (within-at (isBox word flags) (take declared bs) offset size n) (e (declared - 1) (n + 1 + length (rowsIn tries))))
+            (offsets-append tries (rest (declared - 1) (n + 1 + length (rowsFound tries)))
+            ∙ ap₂ (λ (a b : List ℕ). a ++ b) (within-at (isBox word flags) (take declared bs) offset size n) (e (declared - 1) (n + 1 + length (rowsFound tries))))
 
     records-at : (levels parent skip : ℕ) (bs : List ℕ) (offset n : ℕ) → offsets (records rules box levels parent skip bs offset n) ≡ positions rules inside skip bs offset
     unfolding records positions

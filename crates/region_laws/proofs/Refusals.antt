@@ -7,23 +7,20 @@ use Prim.Native.Nat.{ℕ, zero, suc, _≤_, _<_, min}
 use native.Mathlib.Omega.{arith}
 use native.Mathlib.Nat.{eq-zero-or-pos}
 use lib.ListN.{length}
-use Rattle.frame.specs.Version.{wordOf}
-use Rattle.frame.specs.Frame.{headWith, headOf}
-use Rattle.frame.specs.declared.Head.{Head}
-use Rattle.frame.specs.declared.Head.the-variants.{Ended}
-use Rattle.tries.specs.Trace.{Span, Visit, none, hit, visitOf, deepest, top, Inside, onward, records, boxTries, regionTries, allTries}
-use Rattle.region.specs.Listing.{numberOf, answerOf, shown, capacity, flat, laid, worked, listed}
-use Rattle.tries.specs.declared.Cut.{Cut}
-use Rattle.tries.specs.declared.Cut.the-variants.{Going, Full, Spent}
+use Rattle.header_judge.specs.Version.{wordOf}
+use Rattle.header_judge.specs.Head.{headWith, headOf}
+use Rattle.header_judge.specs.declared.Head.{Head}
+use Rattle.header_judge.specs.declared.Head.the-variants.{Ended}
+use Rattle.region_rows.specs.Rows.{top, capacity}
+use Rattle.region_try.specs.Tries.{Try, none, hit, tryOf, deepest, Inside, onward, records, boxTries, regionTries, allTries}
+use Rattle.region.specs.Listing.{numberOf, answerOf, shown, walked, listed}
+use Rattle.region_try.specs.declared.Cut.{Cut}
+use Rattle.region_try.specs.declared.Cut.the-variants.{Going, Full, Spent}
 use Rattle.region.specs.declared.Listing.{Listing}
-use Rattle.tries.proofs.Runs.{spent-going, full-going}
-use Rattle.region_laws.proofs.Shown.{listed-cases}
-
--- a listing of no row
-pub record Alone (bytes t : List ℕ) (x : List ℕ × Listing) : Type 0 where
-  pub table : x .0 ≡ t
-  pub rows : x .1 .rows ≡ 0
-  pub tries : x .1 .tries ≡ min 1 (length bytes)
+use Rattle.region_try.proofs.Runs.{spent-going, full-going}
+use Rattle.region.proofs.Shows.{listed-cases}
+use Rattle.region_rows.proofs.Rows.{laid-none}
+use Rattle.region_laws.specs.Whole.{Alone}
 
 -- such an answer is that of a walk that found no row and was not cut off
 uncut : (cut : Cut) (n : ℕ) (head : Head) → 3 ≤ numberOf (answerOf cut n head) → numberOf (answerOf cut n head) ≤ 5 → (cut ≡ Going) × (n ≡ 0)
@@ -33,7 +30,7 @@ uncut Going zero head h g = (refl, refl)
 uncut Going (suc n) head h g = absurd (omega arith)
 
 -- a walk that found no row and was not cut off made one try, if any
-onward-alone : (limit room : ℕ) (box : Inside) (bs : List ℕ) (n : ℕ) (v : Visit) (rest : ℕ → ℕ → List Visit)
+onward-alone : (limit room : ℕ) (box : Inside) (bs : List ℕ) (n : ℕ) (v : Try) (rest : ℕ → ℕ → List Try)
     → shown limit room (onward box bs n v rest) .cut ≡ Going → length (shown limit room (onward box bs n v rest) .rows) ≡ 0
     → shown limit room (onward box bs n v rest) .tries ≡ 1
 unfolding shown onward
@@ -49,13 +46,8 @@ tries-alone : (rules : List ℕ) (limit room : ℕ) (bytes : List ℕ)
 unfolding allTries regionTries records shown
 tries-alone rules limit room [] e f = refl
 tries-alone rules limit room (b ∷ bs) e f =
-    onward-alone limit room (boxTries rules deepest) (b ∷ bs) 0 (visitOf 0 top 0 (length (b ∷ bs)) (headOf rules (b ∷ bs))) (λ skip m. records rules (boxTries rules deepest) deepest top skip bs 1 m) e f
+    onward-alone limit room (boxTries rules deepest) (b ∷ bs) 0 (tryOf 0 top 0 (length (b ∷ bs)) (headOf rules (b ∷ bs))) (λ skip m. records rules (boxTries rules deepest) deepest top skip bs 1 m) e f
     ∙ omega arith
-
-laid-none : (rs : List Span) (t : List ℕ) → length rs ≡ 0 → laid rs t ≡ t
-unfolding laid flat
-laid-none [] t e = refl
-laid-none (r ∷ rs) t e = absurd (omega arith)
 
 -- no bytes are ended, which answers 5
 no-bytes : (rules bytes : List ℕ) → length bytes ≡ 0 → headOf rules bytes ≡ Ended
@@ -75,7 +67,7 @@ module _ (rules bytes : List ℕ) (limit : ℕ) (t : List ℕ) where
 
   -- the answers 3, 4 and 5
   pub refused-alone : 3 ≤ number (listed rules bytes limit t) → number (listed rules bytes limit t) ≤ 5 → Alone bytes t (listed rules bytes limit t)
-  unfolding worked
+  unfolding walked
   refused-alone =
       listed-cases (λ (x : List ℕ × Listing). 3 ≤ number x → number x ≤ 5 → Alone bytes t x) rules bytes limit t
       (λ h g. absurd (omega arith)) (λ h g. absurd (omega arith))
@@ -86,7 +78,7 @@ module _ (rules bytes : List ℕ) (limit : ℕ) (t : List ℕ) where
 
   -- an empty region answers 5
   empty-answer : length bytes ≡ 0 → 3 ≤ number (listed rules bytes limit t) → number (listed rules bytes limit t) ≤ 5 → number (listed rules bytes limit t) ≡ 5
-  unfolding worked
+  unfolding walked
   empty-answer e =
       listed-cases (λ (x : List ℕ × Listing). 3 ≤ number x → number x ≤ 5 → number x ≡ 5) rules bytes limit t
       (λ h g. absurd (omega arith)) (λ h g. absurd (omega arith))

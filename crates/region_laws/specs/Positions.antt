@@ -4,22 +4,22 @@ use mathlib.Core.List.{List, [], _∷_, _++_}
 use mathlib.Core.Bool.{cond}
 use lib.Dec.{eqb, leb}
 use lib.ListN.{length, take, drop}
-use Rattle.frame.specs.declared.Head.{Head}
-use Rattle.frame.specs.declared.Head.the-variants.{Ended, BadHeader, BadType, Record}
-use Rattle.frame.specs.Frame.{isBox, headOf}
-use Rattle.tries.specs.Trace.{Visit, none, hit, deepest}
+use Rattle.header_judge.specs.declared.Head.{Head}
+use Rattle.header_judge.specs.declared.Head.the-variants.{Ended, BadHeader, BadType, Record}
+use Rattle.header_judge.specs.Head.{isBox, headOf}
+use Rattle.region_try.specs.Tries.{Try, none, hit, deepest}
 
 -- where a try is made
-abbrev pub offsetOf : Visit → ℕ
+abbrev pub offsetOf : Try → ℕ
 offsetOf (none offset head) = offset
 offsetOf (hit r) = r .offset
 
 -- the positions inside a Box: from its held bytes, its own position and its header's size
-abbrev pub Inside : Type 0
-Inside = List ℕ → ℕ → ℕ → List ℕ
+abbrev pub InsideAt : Type 0
+InsideAt = List ℕ → ℕ → ℕ → List ℕ
 
 -- the positions after a header's: none where the region stops; else those inside its record, and those of the rest
-unfoldable pub following : Inside → List ℕ → ℕ → Head → (ℕ → List ℕ) → List ℕ
+unfoldable pub following : InsideAt → List ℕ → ℕ → Head → (ℕ → List ℕ) → List ℕ
 following box bytes at Ended rest = []
 following box bytes at BadHeader rest = []
 following box bytes at (BadType t) rest = []
@@ -28,16 +28,16 @@ following box bytes at (Record word flags declared size) rest =
 
 module _ (rules : List ℕ) where
   -- the positions in a region after `skip` of its bytes, of which the others start at `at`
-  unfoldable pub positions : Inside → ℕ → List ℕ → ℕ → List ℕ
+  unfoldable pub positions : InsideAt → ℕ → List ℕ → ℕ → List ℕ
   positions box skip [] at = []
   positions box (suc k) (b ∷ bs) at = positions box k bs (at + 1)
   positions box zero (b ∷ bs) at = at ∷ following box (b ∷ bs) at (headOf rules (b ∷ bs)) (λ skip. positions box skip bs (at + 1))
 
   -- the positions inside a Box whose region has so many levels left
-  unfoldable pub inBox : ℕ → Inside
+  unfoldable pub inBox : ℕ → InsideAt
   inBox zero held at size = []
   inBox (suc levels) held at size = cond (leb size (length held)) (positions (inBox levels) 0 (drop size held) (at + size)) []
 
--- the positions in the whole input
+-- the header positions that the nested walk visits in the whole input (document 00, demand 3)
 unfoldable pub visited : List ℕ → List ℕ → List ℕ
 visited rules bytes = positions rules (inBox rules deepest) 0 bytes 0

@@ -1,20 +1,20 @@
 // The calls, one for each kind of case. A call gets the case's room of a lent buffer, which is untouched before; each function
 // says whether what the call told is `told` and whether the whole buffer then holds `left`.
-use c_answers::Written;
-use c_codec::decode_core;
-use c_codec::encode_core;
+use crate::agree::UNTOUCHED;
+use crate::agree::UNTOUCHED_LONG;
+use crate::agree::left_bytes;
+use crate::agree::left_words;
+use crate::agree::tells;
+use crate::case::bytes_within;
+use crate::case::part;
+use crate::case::words_within;
+use crate::header_calls::decoded;
+use crate::header_calls::encoded;
+use crate::header_words::BYTES;
+use crate::header_words::FIXED_BYTES;
+use crate::header_words::fixed_words;
+use crate::header_words::header_in;
 use c_header::CHeader;
-use cases::agree::UNTOUCHED;
-use cases::agree::left_bytes;
-use cases::agree::left_words;
-use cases::agree::tells;
-use cases::case::bytes_within;
-use cases::case::part;
-use cases::case::words_within;
-use cases::header_words::BYTES;
-use cases::header_words::FIXED_BYTES;
-use cases::header_words::fixed_words;
-use cases::header_words::header_in;
 
 fn left_header(header: CHeader, left: &[u8]) -> bool {
     let fixed = fixed_words(header);
@@ -23,30 +23,35 @@ fn left_header(header: CHeader, left: &[u8]) -> bool {
         & left_words(&statuses, part(left, FIXED_BYTES, BYTES))
 }
 
-fn tells_written(written: Written, told: &[u8]) -> bool {
+// An answer and the one number that comes with it.
+fn tells_one(answer: u32, number: u64, told: &[u8]) -> bool {
+    tells([answer as u64, number, 0, 0, 0, 0], told)
+}
+
+// An answer and the five numbers that come with it.
+fn tells_five(answer: u32, heard: [u64; 5], told: &[u8]) -> bool {
     tells(
-        [written.answer as u64, written.length as u64, 0, 0, 0, 0],
+        [
+            answer as u64,
+            heard[0],
+            heard[1],
+            heard[2],
+            heard[3],
+            heard[4],
+        ],
         told,
     )
 }
 
 pub(crate) fn header(bytes: &[u8], rules: &[u32], told: &[u8], left: &[u8]) -> bool {
     let untouched = [UNTOUCHED; BYTES];
-    let got = decode_core(header_in(&untouched), bytes, rules);
-    let judged = got.judged;
+    let mut heard = [UNTOUCHED_LONG; 5];
+    let got = decoded(header_in(&untouched), bytes, rules, &mut heard);
     let header = got.header;
-    let numbers = [
-        judged.answer as u64,
-        judged.bad_type as u64,
-        judged.flags as u64,
-        judged.reserved as u64,
-        judged.declared as u64,
-        judged.header_size as u64,
-    ];
-    tells(numbers, told) & left_header(header, left)
+    tells_five(got.answer, heard, told) & left_header(header, left)
 }
 
-pub(crate) fn encoded(
+pub(crate) fn encode(
     bytes: &[u8],
     rules: &[u32],
     out: &mut [u8],
@@ -55,8 +60,9 @@ pub(crate) fn encoded(
     left: &[u8],
 ) -> bool {
     let lent = bytes_within(room, out);
-    let written = encode_core(header_in(bytes), rules, &mut out[..lent]);
-    tells_written(written, told) & left_bytes(out, left)
+    let mut length = UNTOUCHED_LONG;
+    let answer = encoded(header_in(bytes), rules, &mut out[..lent], &mut length);
+    tells_one(answer, length, told) & left_bytes(out, left)
 }
 
 pub(crate) fn listing(
@@ -69,16 +75,9 @@ pub(crate) fn listing(
     left: &[u8],
 ) -> bool {
     let lent = words_within(room, spans);
-    let got = crashlog::crashlog_list(region, rules, limit, &mut spans[..lent]);
-    let numbers = [
-        got.answer as u64,
-        got.bad_type as u64,
-        got.whole as u64,
-        got.reserved as u64,
-        got.rows as u64,
-        got.tries,
-    ];
-    tells(numbers, told) & left_words(spans, left)
+    let mut heard = [UNTOUCHED_LONG; 5];
+    let answer = crashlog::crashlog_list(region, rules, limit, &mut spans[..lent], &mut heard);
+    tells_five(answer, heard, told) & left_words(spans, left)
 }
 
 pub(crate) fn text(
@@ -93,23 +92,21 @@ pub(crate) fn text(
 
 pub(crate) fn table(cper: &[u8], rows: &mut [u32], room: usize, told: &[u8], left: &[u8]) -> bool {
     let lent = words_within(room, rows);
-    let got = crashlog::crashlog_sections(cper, &mut rows[..lent]);
-    tells([got.answer as u64, got.rows as u64, 0, 0, 0, 0], told) & left_words(rows, left)
+    let mut count = UNTOUCHED_LONG;
+    let answer = crashlog::containers::crashlog_sections(cper, &mut rows[..lent], &mut count);
+    tells_one(answer, count, told) & left_words(rows, left)
 }
 
+// The place of one section, and its body as a part of the input, which lies there.
 pub(crate) fn section(cper: &[u8], row: u64, told: &[u8]) -> bool {
-    let got = crashlog::crashlog_section(cper, (row % 4294967296) as u32);
-    tells(
-        [
-            got.answer as u64,
-            got.offset as u64,
-            got.length as u64,
-            0,
-            0,
-            0,
-        ],
-        told,
-    )
+    let row = (row % 4294967296) as u32;
+    let mut place = [UNTOUCHED_LONG; 2];
+    let answer = crashlog::containers::crashlog_section(cper, row, &mut place);
+    let body = cper_sections::section(cper, row);
+    let wanted = part(cper, place[0] as usize, place[1] as usize);
+    tells([answer as u64, place[0], place[1], 0, 0, 0], told)
+        & (body.len() == wanted.len())
+        & left_bytes(body, wanted)
 }
 
 pub(crate) fn normal_form(
@@ -120,8 +117,9 @@ pub(crate) fn normal_form(
     left: &[u8],
 ) -> bool {
     let lent = bytes_within(room, out);
-    let written = crashlog::crashlog_normalise(cper, &mut out[..lent]);
-    tells_written(written, told) & left_bytes(out, left)
+    let mut length = UNTOUCHED_LONG;
+    let answer = crashlog::containers::crashlog_normalise(cper, &mut out[..lent], &mut length);
+    tells_one(answer, length, told) & left_bytes(out, left)
 }
 
 pub(crate) fn name(

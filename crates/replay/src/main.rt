@@ -1,24 +1,28 @@
 // Runs the library on a fixed list of cases and compares all that each call tells and leaves with what the list says.
-// The list is a file for each kind of call, in the folder that the program runs in. The crate `cases` says how a case is laid out.
-use cases::agree::UNTOUCHED;
-use cases::agree::UNTOUCHED_WORD;
-use cases::case::Case;
-use cases::case::MOST_CASE;
-use cases::case::MOST_INPUT;
-use cases::case::bytes_within;
-use cases::case::case_of;
-use cases::case::first_words;
-use cases::case::is_sound;
-use cases::case::left_of;
-use cases::case::part;
-use cases::case::repeat;
-use cases::case::rules_of;
-use cases::case::stored_of;
-use cases::case::told_of;
-use cases::case::u32_in;
+// The list is a file for each kind of call, in the folder that the program runs in. case.rt says how a case is laid out.
+use crate::agree::UNTOUCHED;
+use crate::agree::UNTOUCHED_WORD;
+use crate::case::Case;
+use crate::case::MOST_CASE;
+use crate::case::MOST_INPUT;
+use crate::case::bytes_within;
+use crate::case::case_of;
+use crate::case::first_words;
+use crate::case::is_sound;
+use crate::case::left_of;
+use crate::case::part;
+use crate::case::repeat;
+use crate::case::rules_of;
+use crate::case::stored_of;
+use crate::case::told_of;
+use crate::case::u32_in;
 use libc::STDOUT_FILENO;
 
+mod agree;
 mod calls;
+mod case;
+mod header_calls;
+mod header_words;
 
 // More cases than any file has.
 const MOST_CASES: u64 = 65536;
@@ -72,7 +76,7 @@ fn agrees(kind: Kind, bytes: &[u8], case: Case, rules: &[u32], input: &[u8]) -> 
     let number = case.number;
     match kind {
         Kind::Headers => calls::header(input, rules, told, left),
-        Kind::Encodes => calls::encoded(input, rules, &mut out, room, told, left),
+        Kind::Encodes => calls::encode(input, rules, &mut out, room, told, left),
         Kind::Listings => calls::listing(input, rules, number, &mut numbers, room, told, left),
         Kind::Texts => calls::text(input, &mut page, told, left),
         Kind::Tables => calls::table(input, &mut numbers, room, told, left),

@@ -3,11 +3,11 @@
 use mathlib.Core.Path.{_≡_, refl}
 use mathlib.Core.Bool.{true}
 use lib.ListN.{length}
-use Rattle.rules.specs.Rules.{rowsOf, flagsSmall, validOf}
+use Rattle.rules.specs.Rules.{rulesOf, flagsSmall, validOf}
 use Rattle.rules.specs.Intel.{servers, serverCores, gpus, cores, giving, intel}
 
 pub intel-valid : validOf intel ≡ true
-unfolding servers serverCores gpus cores giving intel rowsOf flagsSmall validOf
+unfolding servers serverCores gpus cores giving intel rulesOf flagsSmall validOf
 intel-valid = refl
 
 pub length-intel : length intel ≡ 120

@@ -3,23 +3,23 @@
 use mathlib.Core.Path.{_≡_, refl, sym, ap, _∙_}
 use mathlib.Core.List.{List, [], _∷_, _++_}
 use mathlib.Core.Bool.{Bool, true, false, cond, not, _&&_}
-use Prim.Native.Nat.{ℕ, _+_, _*_, _/_, _%_, _^_, _≤_, _<_, max}
+use Prim.Native.Nat.{ℕ, _+_, _/_, _%_, _^_, _≤_, _<_, max}
 use native.Mathlib.Nat.{zero-div}
 use native.Mathlib.Omega.{arith}
-use lib.Bits.{bitOr, or-zero-r, or-lt, or-shr, or-step, or-mod}
+use lib.Bits.{bitOr, or-zero-r, or-lt, or-shr, or-step}
 use lib.Dec.{eqb, leb}
 use lib.ListN.{length}
 use borrow.Author.Tests.{eqb-true, eqb-false, ne-eqb, leb-true}
 use Rattle.basics.proofs.Bools.{both}
-use Rattle.rules.specs.Rules.{has, Row, applies, withRow, rowsOf, withRows, flagsOf, flagsSmall, validOf, noneHas}
+use Rattle.rules.specs.Rules.{has, Rule, applies, withRule, rulesOf, withRules, flagsOf, flagsSmall, validOf, noneHas}
 
 -- ---- a valid table
 
-valid-parts : (rules : List ℕ) → validOf rules ≡ true → (length rules % 3 ≡ 0) × (length rules / 3 ≤ 64) × (flagsSmall (rowsOf rules) ≡ true)
+valid-parts : (rules : List ℕ) → validOf rules ≡ true → (length rules % 3 ≡ 0) × (length rules / 3 ≤ 64) × (flagsSmall (rulesOf rules) ≡ true)
 unfolding validOf
 valid-parts rules e =
     let few = leb (length rules / 3) 64 in
-    let small = flagsSmall (rowsOf rules) in
+    let small = flagsSmall (rulesOf rules) in
     let p = both (eqb (length rules % 3) 0) (few && small) e in
     let q = both few small (p .1) in
     (eqb-true (length rules % 3) 0 (p .0), leb-true (length rules / 3) 64 (q .0), q .1)
@@ -33,18 +33,18 @@ pick-lt : (t : Bool) (a b : ℕ) → a < 2 ^ 4 → b < 2 ^ 4 → cond t (bitOr a
 pick-lt true a b h g = or-lt 4 a b h g
 pick-lt false a b h g = h
 
-rows-lt : (word all : ℕ) (rs : List Row) → all < 2 ^ 4 → flagsSmall rs ≡ true → withRows word all rs < 2 ^ 4
-unfolding withRows flagsSmall
+rows-lt : (word all : ℕ) (rs : List Rule) → all < 2 ^ 4 → flagsSmall rs ≡ true → withRules word all rs < 2 ^ 4
+unfolding withRules flagsSmall
 rows-lt word all [] h e = h
 rows-lt word all (r ∷ rs) h e =
     let q = both (leb (r .flags) 15) (flagsSmall rs) e in
     let small : r .flags ≤ 15 = leb-true (r .flags) 15 (q .0) in
-    rows-lt word (withRow word all r) rs (pick-lt (applies word r) all (r .flags) h (omega arith)) (q .1)
+    rows-lt word (withRule word all r) rs (pick-lt (applies word r) all (r .flags) h (omega arith)) (q .1)
 
 pub flags-le : (rules : List ℕ) (word : ℕ) → validOf rules ≡ true → flagsOf rules word ≤ 15
 unfolding flagsOf
 flags-le rules word e =
-    let h : withRows word 0 (rowsOf rules) < 2 ^ 4 = rows-lt word 0 (rowsOf rules) (omega arith) (valid-parts rules e .2) in
+    let h : withRules word 0 (rulesOf rules) < 2 ^ 4 = rows-lt word 0 (rulesOf rules) (omega arith) (valid-parts rules e .2) in
     omega arith
 
 -- ---- a flag that no row has
@@ -65,23 +65,23 @@ no : (b : Bool) → not b ≡ true → b ≡ false
 no true e = sym e
 no false e = refl
 
-rows-lack : (word all k : ℕ) (rs : List Row) → has all (2 ^ k) ≡ false → noneHas (2 ^ k) rs ≡ true → has (withRows word all rs) (2 ^ k) ≡ false
-unfolding withRows noneHas
+rows-lack : (word all k : ℕ) (rs : List Rule) → has all (2 ^ k) ≡ false → noneHas (2 ^ k) rs ≡ true → has (withRules word all rs) (2 ^ k) ≡ false
+unfolding withRules noneHas
 rows-lack word all k [] h e = h
 rows-lack word all k (r ∷ rs) h e =
     let q = both (not (has (r .flags) (2 ^ k))) (noneHas (2 ^ k) rs) e in
-    rows-lack word (withRow word all r) k rs (pick-lacks (applies word r) all (r .flags) k h (no (has (r .flags) (2 ^ k)) (q .0))) (q .1)
+    rows-lack word (withRule word all r) k rs (pick-lacks (applies word r) all (r .flags) k h (no (has (r .flags) (2 ^ k)) (q .0))) (q .1)
 
-pub flags-lack : (rules : List ℕ) (word k : ℕ) → noneHas (2 ^ k) (rowsOf rules) ≡ true → has (flagsOf rules word) (2 ^ k) ≡ false
+pub flags-lack : (rules : List ℕ) (word k : ℕ) → noneHas (2 ^ k) (rulesOf rules) ≡ true → has (flagsOf rules word) (2 ^ k) ≡ false
 unfolding flagsOf
-flags-lack rules word k e = rows-lack word 0 k (rowsOf rules) (ne-eqb (0 / 2 ^ k % 2) 1 (λ z. omega (arith, zero-div (2 ^ k)))) e
+flags-lack rules word k e = rows-lack word 0 k (rulesOf rules) (ne-eqb (0 / 2 ^ k % 2) 1 (λ z. omega (arith, zero-div (2 ^ k)))) e
 
 -- ---- a row that does not apply
 
-pub row-passed : (word all : ℕ) (rs ts : List Row) (r : Row) → applies word r ≡ false → withRows word all (rs ++ (r ∷ ts)) ≡ withRows word all (rs ++ ts)
-unfolding withRows
-row-passed word all [] ts r e = ap (λ (t : Bool). withRows word (cond t (bitOr all (r .flags)) all) ts) e
-row-passed word all (q ∷ rs) ts r e = row-passed word (withRow word all q) rs ts r e
+pub rule-passed : (word all : ℕ) (rs ts : List Rule) (r : Rule) → applies word r ≡ false → withRules word all (rs ++ (r ∷ ts)) ≡ withRules word all (rs ++ ts)
+unfolding withRules
+rule-passed word all [] ts r e = ap (λ (t : Bool). withRules word (cond t (bitOr all (r .flags)) all) ts) e
+rule-passed word all (q ∷ rs) ts r e = rule-passed word (withRule word all q) rs ts r e
 
 -- ---- a row that is looked at
 
@@ -90,11 +90,13 @@ united : (t : Bool) (all flags : ℕ) → bitOr all (cond t flags 0) ≡ cond t 
 united true all flags = refl
 united false all flags = or-zero-r all
 
-pub row-looked : (word all given : ℕ) (r : Row) (rs : List Row) → given ≡ cond (applies word r) (r .flags) 0
-    → withRows word (bitOr all given) rs ≡ withRows word all (r ∷ rs)
-unfolding withRows
-row-looked word all given r rs e = ap (λ (f : ℕ). withRows word f rs) (ap (bitOr all) e ∙ united (applies word r) all (r .flags))
+-- the first of the rules that are left, and those after it
+pub looked : (word all given : ℕ) {r : Rule} {left after : List Rule} → left ≡ r ∷ after → given ≡ cond (applies word r) (r .flags) 0
+    → withRules word (bitOr all given) after ≡ withRules word all left
+unfolding withRules
+looked word all given {r} {left} {after} is e =
+    ap (λ (f : ℕ). withRules word f after) (ap (bitOr all) e ∙ united (applies word r) all (r .flags)) ∙ rw is
 
-pub rows-done : (word all : ℕ) → withRows word all [] ≡ all
-unfolding withRows
-rows-done word all = refl
+pub none-left : (word all : ℕ) {left : List Rule} → left ≡ [] → withRules word all left ≡ all
+unfolding withRules
+none-left word all is = rw is

@@ -1,22 +1,22 @@
 -- The rows of a table from a place on, as the code meets them: a whole row and the rows after it, or none.
 -- By taking the first numbers off the list. Assumes nothing.
-use mathlib.Core.Path.{_≡_, refl, ap, _∙_}
+use mathlib.Core.Path.{_≡_, refl, ap}
 use mathlib.Core.List.{List, [], _∷_}
 use Prim.Native.Nat.{ℕ, suc, _+_, _≤_, _<_}
 use native.Mathlib.Omega.{arith}
 use lib.ListN.{length, getD, drop, length-drop}
 use lib.Seq.{drop-cons}
-use Rattle.rules.specs.Rules.{Row, row, rowsOf}
+use Rattle.rules.specs.Rules.{rule, rulesOf}
 
-pub rows-none : (t : List ℕ) → length t ≤ 2 → rowsOf t ≡ []
-unfolding rowsOf
+pub rows-none : (t : List ℕ) → length t ≤ 2 → rulesOf t ≡ []
+unfolding rulesOf
 rows-none [] h = refl
 rows-none (_ ∷ []) h = refl
 rows-none (_ ∷ _ ∷ []) h = refl
 rows-none (_ ∷ _ ∷ _ ∷ rest) h = absurd (omega arith)
 
 -- no whole row is left
-pub rows-end : (t : List ℕ) (at : ℕ) → length t ≤ at + 2 → rowsOf (drop at t) ≡ []
+pub rows-end : (t : List ℕ) (at : ℕ) → length t ≤ at + 2 → rulesOf (drop at t) ≡ []
 rows-end t at h = rows-none (drop at t) (simp length-drop (omega arith))
 
 -- three numbers, and those after them
@@ -30,6 +30,6 @@ drop-three t at h =
 
 -- a whole row, and those after it
 pub rows-step : (t : List ℕ) (at : ℕ) → at + 2 < length t
-    → rowsOf (drop at t) ≡ row (getD t at 0) (getD t (at + 1) 0) (getD t (at + 2) 0) ∷ rowsOf (drop (at + 3) t)
-unfolding rowsOf
-rows-step t at h = ap rowsOf (drop-three t at h)
+    → rulesOf (drop at t) ≡ rule (getD t at 0) (getD t (at + 1) 0) (getD t (at + 2) 0) ∷ rulesOf (drop (at + 3) t)
+unfolding rulesOf
+rows-step t at h = ap rulesOf (drop-three t at h)

@@ -3,8 +3,9 @@
 ghost use mathlib.Core.Path.{_≡_};
 ghost use Prim.Native.Nat.{_+_, _<_};
 ghost use mathlib.Core.Bool.{cond};
-ghost use Rattle.rules.specs.Rules.{has, row, applies, flagsOf, validOf};
+ghost use Rattle.rules.specs.Rules.{has, rule, applies, flagsOf, validOf};
 
+pub mod columns;
 pub mod intel;
 
 // The flags, as in document 01.
@@ -19,7 +20,7 @@ pub const SIZES_IN_BYTES: u32 = 8;
 // All of them together.
 const EVERY_FLAG: u32 = 15;
 
-pub const NUMBERS_IN_ROW: usize = 3;
+pub const NUMBERS_IN_RULE: usize = 3;
 
 const MOST_ROWS: usize = 64;
 
@@ -35,10 +36,10 @@ pub fn has_flag(flags: u32, flag: u32) -> bool
 pub fn valid(rules: &[u32]) -> bool
     ensures { λ r. ⌜ r ≡ validOf (now (rules .entry)) ⌝ }
 {
-    if rules.len() % NUMBERS_IN_ROW != 0 {
+    if rules.len() % NUMBERS_IN_RULE != 0 {
         return false;
     }
-    if MOST_ROWS < rules.len() / NUMBERS_IN_ROW {
+    if MOST_ROWS < rules.len() / NUMBERS_IN_RULE {
         return false;
     }
     let mut at: usize = 0;
@@ -46,14 +47,14 @@ pub fn valid(rules: &[u32]) -> bool
         if EVERY_FLAG < rules[at + 2] {
             return false;
         }
-        at = at + NUMBERS_IN_ROW;
+        at = at + NUMBERS_IN_RULE;
     }
     true
 }
 
 // The flags that a row gives a word: its own where it applies, else none.
 pub fn flags_given(word: u32, mask: u32, wanted: u32, flags: u32) -> u32
-    ensures { λ r. ⌜ r ≡ cond (applies word (row mask wanted flags)) flags 0 ⌝ }
+    ensures { λ r. ⌜ r ≡ cond (applies word (rule mask wanted flags)) flags 0 ⌝ }
 {
     if word & mask == wanted { flags } else { 0 }
 }
@@ -66,7 +67,7 @@ pub fn flags(rules: &[u32], word: u32) -> u32
     let mut at: usize = 0;
     while at + 2 < rules.len() {
         all = all | flags_given(word, rules[at], rules[at + 1], rules[at + 2]);
-        at = at + NUMBERS_IN_ROW;
+        at = at + NUMBERS_IN_RULE;
     }
     all
 }

@@ -1,2 +1,3 @@
-pub mod Rows
+pub mod Pieces
+pub mod Numbers
 pub mod Printed

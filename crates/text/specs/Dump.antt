@@ -1,18 +1,25 @@
 -- What the dump program prints (document 01, 'Checked examples').
-use Prim.Native.Nat.{ℕ, zero, suc, _+_, _*_}
+use Prim.Native.Nat.{ℕ, _*_}
 use Prim.Native.String.{String}
 use mathlib.Core.Bool.{Bool, cond}
 use mathlib.Core.List.{List, [], _∷_, _++_}
 use lib.Dec.{ltb}
-use lib.ListN.{length, drop, getD, replicate}
-use Rattle.frame.specs.Version.{recordType}
+use lib.ListN.{length, replicate}
+use Rattle.header_judge.specs.Version.{recordType}
+use Rattle.header_judge.specs.Head.{headOf}
+use Rattle.region_rows.specs.declared.Span.{Span}
+use Rattle.region_rows.specs.Rows.{width, spansIn}
 use Rattle.region.specs.declared.Answer.the-variants.{TooLong}
 use Rattle.region.specs.declared.Listing.{Listing}
-use Rattle.tries.specs.Trace.{Span}
-use Rattle.region.specs.Listing.{numberOf, refusal, listed}
+use Rattle.region.specs.Listing.{Shown, numberOf, refusal, listingOf, listed}
 use Rattle.names.specs.Ascii.{ascii}
 use Rattle.names.specs.Names.{textOf}
-use Rattle.number.specs.Number.{decimal, hex}
+use Rattle.text.specs.Number.{decimal, hex}
+
+-- the texts of some things, one after the other
+unfoldable pub each : {A : Type 0} → (A → List ℕ) → List A → List ℕ
+each text [] = []
+each text (x ∷ xs) = text x ++ each text xs
 
 -- ---- the lines
 
@@ -30,32 +37,12 @@ version word = hex word ++ ascii " " ++ textOf (recordType word)
 -- a row's line
 unfoldable pub rowLine : Span → List ℕ
 rowLine r =
-    column (r .level) ++ column (r .offset) ++ column (r .held) ++ column (r .declared) ++ column (r .size)
+    each column (r .level ∷ r .offset ∷ r .held ∷ r .declared ∷ r .size ∷ [])
     ++ version (r .word) ++ ascii "\n"
 
--- the row at the start of some numbers of a table
-abbrev pub rowOf : List ℕ → Span
-rowOf t =
-    record {
-      level = getD t 0 0;
-      parent = getD t 1 0;
-      offset = getD t 2 0;
-      held = getD t 3 0;
-      declared = getD t 4 0;
-      size = getD t 5 0;
-      word = getD t 6 0;
-      flags = getD t 7 0;
-    }
-
--- the lines of a table's first n rows
-unfoldable pub rowLines : List ℕ → ℕ → List ℕ
-rowLines t zero = []
-rowLines t (suc n) = rowLines t n ++ rowLine (rowOf (drop (n * 8) t))
-
 -- the lines of some rows
-unfoldable pub lines : List Span → List ℕ
-lines [] = []
-lines (r ∷ rs) = rowLine r ++ lines rs
+abbrev pub lines : List Span → List ℕ
+lines rs = each rowLine rs
 
 abbrev pub yesNo : Bool → List ℕ
 yesNo b = cond b (ascii "yes") (ascii "no")
@@ -76,18 +63,28 @@ lastLine l =
 abbrev pub mostInput : ℕ
 mostInput = 65535
 
--- the listing with no rules and 81,920 tries, into a table
+abbrev pub mostTries : ℕ
+mostTries = 81920
+
+-- the listing with no rules, into a table
 unfoldable pub listing : List ℕ → List ℕ → List ℕ × Listing
-listing region t = cond (ltb mostInput (length region)) (t, refusal TooLong) (listed [] region 81920 t)
+listing region t = cond (ltb mostInput (length region)) (t, refusal TooLong) (listed [] region mostTries t)
 
 -- the heading, the rows and the last line of a table and its listing
 unfoldable pub textOfListing : List ℕ × Listing → List ℕ
-textOfListing x = heading ++ rowLines (x .0) (x .1 .rows) ++ lastLine (x .1)
+textOfListing x = heading ++ lines (spansIn (x .0) (x .1 .rows)) ++ lastLine (x .1)
 
--- a table of 512 rows
+-- the rows that a dump has room for, and a table of so many
+abbrev pub mostRows : ℕ
+mostRows = 512
+
 unfoldable pub table : List ℕ
-table = replicate 4096 0
+table = replicate (mostRows * width) 0
 
 -- the text of a region
 unfoldable pub dumpText : List ℕ → List ℕ
 dumpText region = textOfListing (listing region table)
+
+-- the text of what a listing with no rules shows
+abbrev pub shownText : List ℕ → Shown → List ℕ
+shownText region s = heading ++ lines (s .rows) ++ lastLine (listingOf (headOf [] region) s)

@@ -1,1 +1,3 @@
 pub mod Dump
+pub mod Number
+pub mod Steps

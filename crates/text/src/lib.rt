@@ -1,59 +1,60 @@
-// The text of a dump, written into a lent buffer line by line.
+// The text of a dump, put into a lent buffer line by line.
 ghost use mathlib.Core.Path.{_≡_};
 ghost use mathlib.Core.List.{_++_};
-ghost use Prim.Native.Nat.{_+_, _*_, _≤_, _<_};
+ghost use Prim.Native.Nat.{_+_, _*_, _≤_};
 ghost use lib.ListN.{length, drop};
-ghost use Rattle.frame.specs.Version.{recordType};
-ghost use Rattle.region.specs.Listing.{numberOf};
+ghost use Rattle.header_judge.specs.Version.{recordType};
+ghost use Rattle.region_rows.specs.Rows.{width, spansIn};
 ghost use Rattle.names.specs.Names.{textOf};
-ghost use Rattle.number.specs.Number.{decimal};
-ghost use Rattle.number.specs.Laid.{Laid};
-ghost use Rattle.text.specs.Dump.{column, version, rowOf, rowLine, rowLines, yesNo, lastLine, listing, dumpText};
-use frame::version::Version;
-use number::put_decimal;
-use number::put_hex;
+ghost use Rattle.text.specs.Number.{decimal};
+ghost use Rattle.text.specs.Dump.{each, column, version, rowLine, lines, yesNo, lastLine, listing, dumpText};
+ghost use Rattle.text.specs.Steps.{Puts};
+
+mod put;
+
+use header_judge::version::Version;
+use put::put_column;
+use put::put_decimal;
+use put::put_hex;
+use put::put_text;
 use region::Answer;
 use region::Listing;
+use region_rows::Span;
 
-// The longest input, and the most tries.
+// The longest input, the most tries and the most rows.
 const MOST_INPUT: usize = 65535;
 
 const MOST_TRIES: u64 = 81920;
 
+const MOST_ROWS: usize = 512;
+
 const NO_RULES: [u32; 0] = [];
 
-// The numbers of a row, and of a table of 512 rows.
-const NUMBERS_IN_ROW: usize = 8;
+const NUMBERS: usize = MOST_ROWS * region_rows::WIDTH;
 
-const NUMBERS: usize = 512 * NUMBERS_IN_ROW;
+// The most bytes of a text: the heading, the rows of at most 81 bytes, and the last line.
+pub const MOST_TEXT: usize = 47 + MOST_ROWS * 81 + 91;
 
-// The most bytes of a text: the heading, 512 rows of at most 81 bytes, and the last line.
-pub const MOST_TEXT: usize = 47 + 512 * 81 + 91;
+// The numbers that a row's line begins with.
+const COLUMNS: usize = 5;
 
-// Some bytes, from `at` on. This and every other `put` gives where its text ends.
-fn put_text(out: &mut [u8], at: usize, text: &[u8]) -> usize
-    requires { ⌜ at + length (now text) ≤ length (now out) ⌝ }
-    ensures { λ r. ⌜ Laid (now (out .entry)) at (now (text .entry)) (now (out .exit)) r ⌝ }
+fn put_columns(out: &mut [u8], at: usize, numbers: [u32; COLUMNS]) -> usize
+    requires { ⌜ at + 64 ≤ length (now out) ⌝ }
+    ensures { λ r. ⌜ Puts (now (out .entry)) at (each column numbers) 55 (now (out .exit)) r ⌝ }
 {
-    bytes::copy(text, &mut out[at..]);
-    at + text.len()
-}
-
-// A number and the space after it.
-fn put_column(out: &mut [u8], at: usize, n: u32) -> usize
-    requires { ⌜ at + 11 ≤ length (now out) ⌝ }
-    ensures { λ r. ⌜ Laid (now (out .entry)) at (column n) (now (out .exit)) r ⌝ }
-    ensures { λ r. ⌜ r ≤ at + 11 ⌝ }
-{
-    let next = put_decimal(out, at, n as u64);
-    put_text(out, next, b" ")
+    let mut next = at;
+    let mut i = 0;
+    while i < COLUMNS {
+        next = put_column(out, next, numbers[i]);
+        i = i + 1;
+    }
+    next
 }
 
 // The name of a version word's record type.
 fn put_name(out: &mut [u8], at: usize, word: u32) -> usize
     requires { ⌜ at + 16 ≤ length (now out) ⌝ }
-    ensures { λ r. ⌜ Laid (now (out .entry)) at (textOf (recordType word)) (now (out .exit)) r ⌝ }
-    ensures { λ r. ⌜ r ≤ at + 16 ⌝ }
+    ensures { λ r. ⌜ Puts (now (out .entry)) at (textOf (recordType word)) 16 (now (out .exit)) r ⌝ }
 {
     let version = Version::from_u32(word);
     let name = names::name_of(version.record_type as u32);
@@ -65,66 +66,42 @@ fn put_name(out: &mut [u8], at: usize, word: u32) -> usize
 // A version word and the name of its record type.
 fn put_version(out: &mut [u8], at: usize, word: u32) -> usize
     requires { ⌜ at + 25 ≤ length (now out) ⌝ }
-    ensures { λ r. ⌜ Laid (now (out .entry)) at (version word) (now (out .exit)) r ⌝ }
-    ensures { λ r. ⌜ r ≤ at + 25 ⌝ }
+    ensures { λ r. ⌜ Puts (now (out .entry)) at (version word) 25 (now (out .exit)) r ⌝ }
 {
     let digits = put_hex(out, at, word);
     let space = put_text(out, digits, b" ");
     put_name(out, space, word)
 }
 
-// The line of the row at the start of some numbers of a table.
-fn put_row(out: &mut [u8], at: usize, row: &[u32]) -> usize
-    requires { ⌜ (8 ≤ length (now row)) × (at + 81 ≤ length (now out)) ⌝ }
-    ensures { λ r. ⌜ Laid (now (out .entry)) at (rowLine (rowOf (now (row .entry)))) (now (out .exit)) r ⌝ }
-    ensures { λ r. ⌜ r ≤ at + 81 ⌝ }
+// A row's line.
+fn put_row(out: &mut [u8], at: usize, row: Span) -> usize
+    requires { ⌜ at + 81 ≤ length (now out) ⌝ }
+    ensures { λ r. ⌜ Puts (now (out .entry)) at (rowLine row) 81 (now (out .exit)) r ⌝ }
 {
-    let level = put_column(out, at, row[0]);
-    let offset = put_column(out, level, row[2]);
-    let held = put_column(out, offset, row[3]);
-    let declared = put_column(out, held, row[4]);
-    let header = put_column(out, declared, row[5]);
-    let version = put_version(out, header, row[6]);
+    let numbers = [row.level, row.offset, row.held, row.declared, row.size];
+    let columns = put_columns(out, at, numbers);
+    let version = put_version(out, columns, row.word);
     put_text(out, version, b"\n")
 }
 
 // The lines of a table's first rows.
 fn put_rows(out: &mut [u8], at: usize, spans: &[u32], rows: usize) -> usize
-    requires { ⌜ (rows * 8 ≤ length (now spans)) × (at + rows * 81 ≤ length (now out)) ⌝ }
-    ensures { λ r. ⌜ Laid (now (out .entry)) at (rowLines (now (spans .entry)) rows) (now (out .exit)) r ⌝ }
-    ensures { λ r. ⌜ r ≤ at + rows * 81 ⌝ }
+    requires { ⌜ (rows * width ≤ length (now spans)) × (at + rows * 81 ≤ length (now out)) ⌝ }
+    ensures { λ r. ⌜ Puts (now (out .entry)) at (lines (spansIn (now (spans .entry)) rows)) (rows * 81) (now (out .exit)) r ⌝ }
 {
     let mut next = at;
     let mut i = 0;
     while i < rows {
-        let from = i * NUMBERS_IN_ROW;
-        next = put_row(out, next, &spans[from..]);
+        next = put_row(out, next, region_rows::get(spans, i));
         i = i + 1;
     }
     next
 }
 
-// The number of an answer.
-fn number_of(answer: Answer) -> u64
-    ensures { λ r. ⌜ (r ≡ numberOf answer) × (r < 8) ⌝ }
-{
-    match answer {
-        Answer::Done => 0,
-        Answer::TooLong => 1,
-        Answer::BadRules => 2,
-        Answer::BadHeader => 3,
-        Answer::BadType(_) => 4,
-        Answer::Empty => 5,
-        Answer::SpansFull => 6,
-        Answer::TriesSpent => 7,
-    }
-}
-
 // Whether the listing is whole.
 fn put_whole(out: &mut [u8], at: usize, whole: bool) -> usize
     requires { ⌜ at + 3 ≤ length (now out) ⌝ }
-    ensures { λ r. ⌜ Laid (now (out .entry)) at (yesNo whole) (now (out .exit)) r ⌝ }
-    ensures { λ r. ⌜ r ≤ at + 3 ⌝ }
+    ensures { λ r. ⌜ Puts (now (out .entry)) at (yesNo whole) 3 (now (out .exit)) r ⌝ }
 {
     if whole {
         return put_text(out, at, b"yes");
@@ -134,9 +111,8 @@ fn put_whole(out: &mut [u8], at: usize, whole: bool) -> usize
 
 // A text and a number in decimal.
 fn put_count(out: &mut [u8], at: usize, text: &[u8], n: u64) -> usize
-    requires { ⌜ at + length (now text) + 20 ≤ length (now out) ⌝ }
-    ensures { λ r. ⌜ Laid (now (out .entry)) at (now (text .entry) ++ decimal n) (now (out .exit)) r ⌝ }
-    ensures { λ r. ⌜ r ≤ at + length (now (text .entry)) + 20 ⌝ }
+    requires { ⌜ at + (length (now text) + 20) ≤ length (now out) ⌝ }
+    ensures { λ r. ⌜ Puts (now (out .entry)) at (now (text .entry) ++ decimal n) (length (now (text .entry)) + 20) (now (out .exit)) r ⌝ }
 {
     let next = put_text(out, at, text);
     put_decimal(out, next, n)
@@ -145,30 +121,24 @@ fn put_count(out: &mut [u8], at: usize, text: &[u8], n: u64) -> usize
 // The last line.
 fn put_last(out: &mut [u8], at: usize, listing: Listing) -> usize
     requires { ⌜ at + 91 ≤ length (now out) ⌝ }
-    ensures { λ r. ⌜ Laid (now (out .entry)) at (lastLine listing) (now (out .exit)) r ⌝ }
-    ensures { λ r. ⌜ r ≤ at + 91 ⌝ }
+    ensures { λ r. ⌜ Puts (now (out .entry)) at (lastLine listing) 91 (now (out .exit)) r ⌝ }
 {
     let answer = listing.answer;
     let rows = put_count(out, at, b"rows ", listing.rows as u64);
     let tries = put_count(out, rows, b" tries ", listing.tries);
     let text = put_text(out, tries, b" whole ");
     let whole = put_whole(out, text, listing.whole);
-    let number = put_count(out, whole, b" answer ", number_of(answer));
+    let number = put_count(out, whole, b" answer ", region::number_of(answer) as u64);
     put_text(out, number, b"\n")
 }
 
-// The listing, or the refusal of a region that is too long.
+// The listing, or the refusal of a region that is too long; its rows fit the table.
 fn listing_of(region: &[u8], spans: &mut [u32]) -> Listing
     ensures { λ r. ⌜ (now (spans .exit), r) ≡ listing (now (region .entry)) (now (spans .entry)) ⌝ }
-    ensures { λ r. ⌜ r .rows * 8 ≤ length (now (spans .entry)) ⌝ }
+    ensures { λ r. ⌜ r .rows * width ≤ length (now (spans .entry)) ⌝ }
 {
     if MOST_INPUT < region.len() {
-        return Listing {
-            answer: Answer::TooLong,
-            rows: 0,
-            tries: 0,
-            whole: false,
-        };
+        return region::refused(Answer::TooLong);
     }
     region::list(region, &NO_RULES, MOST_TRIES, spans)
 }

@@ -18,21 +18,12 @@ took : (h : CHeader) {f : Fields} {t : HeaderType} {ok : Bool} → f ≡ fieldsI
 unfolding headerIn
 took h e g s = ap₂ (λ (ok : Bool) (t : HeaderType). taken ok h t) s (g ∙ ap typeOf e)
 
-fields-in-requires : tie.Need-fields-in-requires
-fields-in-requires c κs = search needs
-
-type-of-requires : tie.Need-type-of-requires
-type-of-requires c κs = search needs
-
-is-sound-requires : tie.Need-is-sound-requires
-is-sound-requires c κs = search needs
-
 returns : tie.Need-returns
 returns c =
-    let args = c .before .before .before .before .before .before .args in
-    let fields-in = c .before .before .before .before .fields-in in
-    let type-of = c .before .before .before .type-of in
-    took (args .c) (fields-in .ensures) (type-of .ensures) (c .is-sound .ensures)
+    let type = c .before .before .before in
+    let fields = type .before in
+    took (fields .before .before .args .c) (fields .fields-in .ensures) (type .type-of .ensures) (c .is-sound .ensures)
 
 pub header-in-spec : {M : Type 1} → statement M
-header-in-spec = tie.close (tie.spec fields-in-requires type-of-requires is-sound-requires returns)
+header-in-spec =
+    tie.close (tie.spec (λ c κs. search needs) (λ c κs. search needs) (λ c κs. search needs) returns)

@@ -14,13 +14,10 @@ tested : (h : CHeader) {has : Bool} → has ≡ hasComplete (h .layout)
 unfolding sound
 tested h e = rw e
 
-has-complete-requires : tie.Need-has-complete-requires
-has-complete-requires c κs = search needs
-
 returns : tie.Need-returns
 returns c =
     let args = c .before .before .before .before .before .args in
     tested (args .c) (c .before .has-complete .ensures)
 
 pub is-sound-spec : {M : Type 1} → statement M
-is-sound-spec = tie.close (tie.spec has-complete-requires returns)
+is-sound-spec = tie.close (tie.spec (λ c κs. search needs) returns)

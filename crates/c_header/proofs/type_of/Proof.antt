@@ -36,4 +36,4 @@ type-of-spec =
     (λ c. rw (c .match .keys7))
     (λ c. rw (c .match .keys8))
     (λ c. rw (c .match .keys9))
-    (λ c. sym (List·getD-eq-default (typesFrom (c .before .args .f)) Type0 (past _ (c .before .args .f .layout) 9 (c .match .rest)))))
+    (λ c. let f = c .before .before .before .before .args .f in sym (List·getD-eq-default (typesFrom (f .stamp) (f .status) (f .extras)) Type0 (past _ (f .layout) 9 (c .match .rest)))))

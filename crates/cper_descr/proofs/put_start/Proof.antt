@@ -26,9 +26,6 @@ reserved c = laid-number (bits (c .before .before .before .before)) 1 tt (c .put
 abbrev flags : (c : tie.After-put-u323) → Laid descriptorSize 16 (c .put-u323 .last .0)
 flags c = laid-number (reserved (c .before .before .before .before)) 4 tt (c .put-u323 .ensures) refl
 
-put-u32-requires : tie.Need-put-u32-requires
-put-u32-requires c κs = search needs
-
 put-u32-requires-2 : tie.Need-put-u32-requires-2
 put-u32-requires-2 c κs = room-for (offset (c .before .before .before)) 4 tt
 
@@ -55,7 +52,7 @@ pub put-start-spec : {M : Type 1} → statement M
 put-start-spec =
     tie.close
     (tie.spec
-    put-u32-requires
+    (λ c κs. search needs)
     put-u32-requires-2
     put-u16-requires
     put-u8-requires

@@ -42,48 +42,23 @@ whole s end h e = four s (eqb end signatureEnd) (omega arith) ∙ rw (le-leb hea
 returns : tie.Need-returns
 returns c = short (c .before .before .args .s .now) (omega arith)
 
-u32-at-requires : tie.Need-u32-at-requires
-u32-at-requires c κs = search needs
-
-shared-slice-read-result : tie.Need-shared-slice-read-result
-shared-slice-read-result c = search needs
-
-array-read-result : tie.Need-array-read-result
-array-read-result c = search needs
-
-shared-slice-read-result-2 : tie.Need-shared-slice-read-result-2
-shared-slice-read-result-2 c = search needs
-
-array-read-result-2 : tie.Need-array-read-result-2
-array-read-result-2 c = search needs
-
-shared-slice-read-result-3 : tie.Need-shared-slice-read-result-3
-shared-slice-read-result-3 c = search needs
-
-array-read-result-3 : tie.Need-array-read-result-3
-array-read-result-3 c = search needs
-
-shared-slice-read-result-4 : tie.Need-shared-slice-read-result-4
-shared-slice-read-result-4 c = search needs
-
-array-read-result-4 : tie.Need-array-read-result-4
-array-read-result-4 c = search needs
-
 returns-2 : tie.Need-returns-2
-returns-2 c = whole (c .before .before .before .before .before .before .before .args .s .now) (c .before .before .before .before .u32-at .result) (omega arith) (c .before .before .before .before .u32-at .ensures)
+returns-2 c =
+    let read = c .before .before .before .before in
+    whole (read .before .before .before .args .s .now) (read .u32-at .result) (omega arith) (read .u32-at .ensures)
 
 pub is-cper-spec : {M : Type 1} → statement M
 is-cper-spec =
     tie.close
     (tie.spec
     returns
-    u32-at-requires
-    shared-slice-read-result
-    array-read-result
-    shared-slice-read-result-2
-    array-read-result-2
-    shared-slice-read-result-3
-    array-read-result-3
-    shared-slice-read-result-4
-    array-read-result-4
+    (λ c κs. search needs)
+    (λ c. search needs)
+    (λ c. search needs)
+    (λ c. search needs)
+    (λ c. search needs)
+    (λ c. search needs)
+    (λ c. search needs)
+    (λ c. search needs)
+    (λ c. search needs)
     returns-2)

@@ -1,16 +1,28 @@
 -- `crashlog_list` gives the listing as C has it.
--- By its number and values. Assumes nothing.
-use Rattle.c_answers.specs.Answers.{listingOf}
-use Rattle.crashlog.proofs.Out.{put-out}
+-- What is stored and returned is read off the listing. Assumes nothing.
+use mathlib.Core.Path.{ap}
+use Rattle.crashlog.specs.Listing.{listingOut}
 use borrow.Author.Needs.{needs}
 use Rattle.crashlog.proofs.crashlog_list.Statement.{statement}
 use Rattle.crashlog.proofs.crashlog_list.Tie as tie
+
+returns : tie.Need-returns
+returns c =
+    let marked = c .before .before in
+    let typed = marked .before in
+    let listed = typed .before .before .before .before in
+    rw (typed .type-of .ensures, marked .bit-of .ensures .0, c .number-of .ensures .0) (ap listingOut (listed .list .ensures .0))
 
 pub crashlog-list-spec : {M : Type 1} → statement M
 crashlog-list-spec =
     tie.close
     (tie.spec
     (λ c κs. search needs)
+    (λ c. search needs)
     (λ c κs. search needs)
     (λ c. search needs)
-    (λ c. put-out listingOf (c .before .before .before .list .ensures) (c .listing-of .ensures)))
+    (λ c κs. search needs)
+    (λ c. search needs)
+    (λ c κs. search needs)
+    (λ c. search needs)
+    returns)

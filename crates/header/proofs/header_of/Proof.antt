@@ -4,16 +4,15 @@ use mathlib.Core.Path.{_≡_, ap₂}
 use mathlib.Core.List.{List}
 use Prim.Native.Nat.{ℕ, _≤_, _<_}
 use lib.ListN.{length}
-use Rattle.frame.specs.Version.{versionOf}
-use Rattle.frame.specs.Frame.{recordSize, extendedSize, lacking, sizeFor, countOf, layoutOf, sizeOf}
-use Rattle.frame.specs.declared.RecordSize.{RecordSize}
-use Rattle.frame.specs.declared.version.Version.{Version}
-use Rattle.header.specs.declared.Header.{Header}
+use Rattle.header_judge.specs.Version.{versionOf}
+use Rattle.header_judge.specs.Head.{recordSize, extendedSize, lacking, sizeFor, countOf, layoutOf, sizeOf}
+use Rattle.header_judge.specs.declared.RecordSize.{RecordSize}
+use Rattle.header_judge.specs.declared.version.Version.{Version}
 use Rattle.header.specs.declared.HeaderType.{HeaderType}
 use Rattle.header.specs.Layouts.{typeFrom, statusesFrom}
 use Rattle.header.specs.Header.{numbersOf, headerOf}
-use Rattle.frame.specs.declared.Layout.{Layout}
-use Rattle.frame.proofs.Sizes.{size-found}
+use Rattle.header_judge.specs.declared.Layout.{Layout}
+use Rattle.header_judge.proofs.Sizes.{size-found}
 use borrow.Author.Needs.{needs}
 use Rattle.header.proofs.header_of.Statement.{statement}
 use Rattle.header.proofs.header_of.Tie as tie
@@ -37,12 +36,6 @@ assembled bs word flags e v z t ws =
     let size = ap₂ (λ (a b : ℕ). sizes a b) (z .0) (z .1) in
     rw (v, size, t, ws, e)
 
-layout-of-requires : tie.Need-layout-of-requires
-layout-of-requires c κs = search needs
-
-from-u32-requires : tie.Need-from-u32-requires
-from-u32-requires c κs = search needs
-
 sizes-of-requires : tie.Need-sizes-of-requires
 sizes-of-requires c κs =
     let args = c .before .before .before .args in
@@ -65,18 +58,17 @@ statuses-of-requires c κs =
 
 returns : tie.Need-returns
 returns c =
-    let layout-of = c .before .before .before .before .layout-of in
-    let from-u32 = c .before .before .before .from-u32 in
-    let sizes-of = c .before .before .sizes-of in
-    let a = c .before .before .before .before .before .before .args in
-    assembled (a .s .now) (a .word) (a .flags) (layout-of .ensures) (from-u32 .ensures) (sizes-of .ensures) (c .before .fields-of .ensures) (c .statuses-of .ensures)
+    let chosen = c .before .before .before .before in
+    let a = chosen .before .before .args in
+    assembled (a .s .now) (a .word) (a .flags) (chosen .layout-of .ensures) (c .before .before .before .from-u32 .ensures) (c .before .before .sizes-of .ensures)
+    (c .before .fields-of .ensures) (c .statuses-of .ensures)
 
 pub header-of-spec : {M : Type 1} → statement M
 header-of-spec =
     tie.close
     (tie.spec
-    layout-of-requires
-    from-u32-requires
+    (λ c κs. search needs)
+    (λ c κs. search needs)
     sizes-of-requires
     fields-of-requires
     statuses-of-requires

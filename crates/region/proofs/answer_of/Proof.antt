@@ -3,10 +3,10 @@
 use mathlib.Core.Path.{_≡_, refl}
 use Prim.Native.Nat.{ℕ, zero, suc}
 use denote.Ref.{now}
-use Rattle.frame.specs.Frame.{headOf}
-use Rattle.frame.specs.declared.Head.{Head}
+use Rattle.header_judge.specs.Head.{headOf}
+use Rattle.header_judge.specs.declared.Head.{Head}
 use Rattle.region.specs.Listing.{answerOf}
-use Rattle.tries.specs.declared.Cut.the-variants.{Going}
+use Rattle.region_try.specs.declared.Cut.the-variants.{Going}
 use Rattle.region.specs.declared.Answer.the-variants.{Done}
 use borrow.Author.Needs.{needs}
 use Rattle.region.proofs.answer_of.Statement.{statement}

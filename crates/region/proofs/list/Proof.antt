@@ -1,47 +1,79 @@
--- `list` gives the listing.
+-- `list` gives the listing, whose rows fit the table.
 -- The walk from the top, its answer and its mark are those of the definition. Assumes nothing.
-use mathlib.Core.Path.{_≡_, sym, _∙_}
+use mathlib.Core.Path.{_≡_, sym, subst, _∙_}
+use mathlib.Core.List.{List}
 use mathlib.Core.Bool.{true, false}
+use Prim.Native.Nat.{ℕ, _*_, _≤_}
 use native.Mathlib.Omega.{arith}
 use borrow.Author.Tests.{not-true, not-false}
 use denote.Ref.{now}
+use lib.ListN.{length}
 use Rattle.rules.specs.Rules.{validOf}
 use Rattle.rules.proofs.Laws.{valid-rows}
-use Rattle.region.proofs.Shows.{listed-long, listed-rules, listed-run}
+use Rattle.region_rows.specs.Rows.{width}
+use Rattle.region.specs.Listing.{listed}
+use Rattle.region.specs.declared.Listing.{Listing}
+use Rattle.region.proofs.Shows.{listed-long, listed-rules, listed-run, rows-fit}
 use borrow.Author.Needs.{needs}
 use Rattle.region.proofs.list.Statement.{statement}
 use Rattle.region.proofs.list.Tie as tie
 
+-- what is the listing has rows that fit
+with-fit : (rules bytes : List ℕ) (limit : ℕ) (t : List ℕ) {x : List ℕ × Listing} → x ≡ listed rules bytes limit t
+    → (x ≡ listed rules bytes limit t) × (x .1 .rows * width ≤ length t)
+with-fit rules bytes limit t e = (e, subst (λ (y : List ℕ × Listing). y .1 .rows * width ≤ length t) (sym e) (rows-fit rules bytes limit t))
+
 returns : tie.Need-returns
 returns c =
     let a = c .before .before .before .before .before .args in
-    rw (c .refused .ensures) (listed-long (now (a .rules)) (now (a .region)) (a .limit) (now (a .spans)) (omega arith))
+    with-fit (now (a .rules)) (now (a .region)) (a .limit) (now (a .spans))
+    (rw (c .refused .ensures) (listed-long (now (a .rules)) (now (a .region)) (a .limit) (now (a .spans)) (omega arith)))
 
 returns-2 : tie.Need-returns-2
 returns-2 c =
-    let a = c .before .before .before .before .before .before .before .args in
-    let bad : validOf (now (a .rules)) ≡ false = sym (c .before .before .valid .ensures) ∙ not-true (c .before .before .valid .result) (c .before .if2 .taken) in
-    rw (c .refused2 .ensures) (listed-rules (now (a .rules)) (now (a .region)) (a .limit) (now (a .spans)) (omega arith) bad)
+    let judged = c .before .before in
+    let a = judged .before .before .before .before .before .args in
+    let bad : validOf (now (a .rules)) ≡ false = sym (judged .valid .ensures) ∙ not-true (judged .valid .result) (c .before .if2 .taken) in
+    with-fit (now (a .rules)) (now (a .region)) (a .limit) (now (a .spans))
+    (rw (c .refused2 .ensures) (listed-rules (now (a .rules)) (now (a .region)) (a .limit) (now (a .spans)) (omega arith) bad))
 
 -- past both tests the rules are valid
-good : (c : tie.Else2) → validOf (now (c .before .before .before .before .before .before .args .rules)) ≡ true
+abbrev start : tie.After-valid → tie.Start
+start c = c .before .before .before .before .before
+
+good : (c : tie.Else2) → validOf (now (start (c .before) .args .rules)) ≡ true
 good c = sym (c .before .valid .ensures) ∙ not-false (c .before .valid .result) (c .if2 .left)
 
 columns-of-requires : tie.Need-columns-of-requires
-columns-of-requires c κs = valid-rows (now (c .before .before .before .before .before .before .args .rules)) (good c)
+columns-of-requires c κs = valid-rows (now (start (c .before) .args .rules)) (good c)
+
+-- what the walk is lent, from the place of its call
+abbrev bounded : tie.After-region-walk-arg → tie.After-bounds-of
+bounded c = c .before .before .before
+
+abbrev laid-out : tie.After-bounds-of → tie.After-columns-of
+laid-out c = c .before .before .before
 
 region-walk-requires : tie.Need-region-walk-requires
 region-walk-requires c κs =
-    let v = valid-rows (now (c .before .before .before .before .before .before .before .before .before .before .before .args .rules)) (good (c .before .before .before .before .before)) in
-    search (needs, v)
+    let bounds = bounded c in
+    let passed = laid-out bounds .before in
+    let v = valid-rows (now (start (passed .before) .args .rules)) (good passed) in
+    rw (bounds .bounds-of .ensures) (search (needs, v))
 
 returns-3 : tie.Need-returns-3
 returns-3 c =
-    let g = c .before .before .before .before .before .before .before .before .before .before .before in
-    let a = g .before .before .before .before .before .before .args in
-    let y = c .before .before .before .before .before .region-walk in
-    rw (c .before .is-done .ensures, c .before .before .answer-of .ensures)
-    (listed-run (now (a .rules)) (now (a .region)) (a .limit) (now (a .spans)) (omega arith) (good g) (y .last .1 .1 .1 .1 .1 .1 .1 .1 .1 .0, y .result) (rw (c .before .before .before .before .before .before .before .before .before .room-of .ensures, c .before .before .before .before .before .before .before .before .before .before .columns-of .ensures) at (y .ensures)))
+    let answered = c .before .before in
+    let walk = answered .before .before .before in
+    let bounds = walk .before .before .before .before in
+    let columns = bounds .before .before .before in
+    let passed = columns .before in
+    let a = start (passed .before) .args in
+    let y = walk .region-walk in
+    with-fit (now (a .rules)) (now (a .region)) (a .limit) (now (a .spans))
+    (rw (c .before .number-of .ensures .0, answered .answer-of .ensures)
+    (listed-run (now (a .rules)) (now (a .region)) (a .limit) (now (a .spans)) (omega arith) (good passed) (y .last .1 .1 .1 .1 .1 .1 .1 .1 .1 .0, y .result)
+    (rw (bounds .bounds-of .ensures, bounds .before .room-of .ensures, columns .columns-of .ensures) at (y .ensures))))
 
 pub list-spec : {M : Type 1} → statement M
 list-spec =
@@ -54,7 +86,7 @@ list-spec =
     returns-2
     columns-of-requires
     (λ c κs. search needs)
-    (λ c. search needs)
+    (λ c κs. search needs)
     region-walk-requires
     (λ c κs. search needs)
     (λ c κs. search needs)

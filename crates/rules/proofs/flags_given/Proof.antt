@@ -2,7 +2,6 @@
 -- By the test's outcome. Assumes nothing.
 use mathlib.Core.Path.{sym, ap}
 use mathlib.Core.Bool.{Bool, cond}
-use Prim.Native.Nat.{ℕ}
 use borrow.Author.Tests.{eq-eqb, ne-eqb}
 use Rattle.rules.proofs.flags_given.Statement.{statement}
 use Rattle.rules.proofs.flags_given.Tie as tie

@@ -1,14 +1,13 @@
 -- `valid` tells whether a table is valid.
 -- The loop's invariant: the table is valid exactly when the rows still to come have small flags. Assumes nothing.
-use mathlib.Core.Path.{_≡_, sym, ap, _∙_}
-use mathlib.Core.Bool.{Bool, true, false, _&&_}
-use mathlib.Core.List.{List, []}
+use mathlib.Core.Path.{_≡_, _∙_}
+use mathlib.Core.Bool.{true, false}
+use mathlib.Core.List.{List}
 use Prim.Native.Nat.{ℕ, _+_, _-_, _/_, _%_, _≤_, _<_}
 use native.Mathlib.Omega.{arith}
-use lib.Dec.{eqb, leb}
 use lib.ListN.{length, getD, drop}
 use borrow.Author.Tests.{eq-eqb, ne-eqb, le-leb, lt-leb}
-use Rattle.rules.specs.Rules.{Row, row, rowsOf, flagsSmall, validOf}
+use Rattle.rules.specs.Rules.{rulesOf, flagsSmall, validOf}
 use Rattle.rules.proofs.Rows.{rows-step, rows-end}
 use borrow.Author.Needs.{needs}
 use Rattle.rules.proofs.valid.Statement.{statement}
@@ -25,24 +24,24 @@ module _ (t : List ℕ) where
   long e h = rw (eq-eqb (length t % 3) 0 e, lt-leb (length t / 3) 64 h)
 
   -- what is left to look at
-  start : length t % 3 ≡ 0 → length t / 3 ≤ 64 → flagsSmall (rowsOf t) ≡ validOf t
+  start : length t % 3 ≡ 0 → length t / 3 ≤ 64 → flagsSmall (rulesOf t) ≡ validOf t
   unfolding validOf
   start e h = rw (eq-eqb (length t % 3) 0 e, le-leb (length t / 3) 64 h)
 
-  large : (at : ℕ) → at + 2 < length t → 15 < getD t (at + 2) 0 → false ≡ flagsSmall (rowsOf (drop at t))
+  large : (at : ℕ) → at + 2 < length t → 15 < getD t (at + 2) 0 → false ≡ flagsSmall (rulesOf (drop at t))
   unfolding flagsSmall
   large at h g = rw (rows-step t at h, lt-leb (getD t (at + 2) 0) 15 g)
 
-  turn : (at : ℕ) → at + 2 < length t → getD t (at + 2) 0 ≤ 15 → flagsSmall (rowsOf (drop (at + 3) t)) ≡ flagsSmall (rowsOf (drop at t))
+  turn : (at : ℕ) → at + 2 < length t → getD t (at + 2) 0 ≤ 15 → flagsSmall (rulesOf (drop (at + 3) t)) ≡ flagsSmall (rulesOf (drop at t))
   unfolding flagsSmall
   turn at h g = rw (rows-step t at h, le-leb (getD t (at + 2) 0) 15 g)
 
-  last : (at : ℕ) → length t ≤ at + 2 → true ≡ flagsSmall (rowsOf (drop at t))
+  last : (at : ℕ) → length t ≤ at + 2 → true ≡ flagsSmall (rulesOf (drop at t))
   unfolding flagsSmall
   last at h = rw (rows-end t at h)
 
 abbrev Inv-loop : tie.InvT-loop
-Inv-loop rules at₀ at = (at % 3 ≡ 0) × (at ≤ length rules) × (flagsSmall (rowsOf (drop at rules)) ≡ validOf rules)
+Inv-loop rules at₀ at = (at % 3 ≡ 0) × (at ≤ length rules) × (flagsSmall (rulesOf (drop at rules)) ≡ validOf rules)
 
 abbrev μ-loop : tie.MeasureT-loop
 μ-loop rules at₀ at = length rules - at

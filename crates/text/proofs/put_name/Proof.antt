@@ -1,14 +1,15 @@
--- `put_name` lays the name of a version word's record type: the first `len` bytes of what `name_of` gives.
--- Assumes nothing.
+-- `put_name` puts the name of a version word's record type.
+-- It is the first `len` bytes of what `name_of` gives. Assumes nothing.
 use mathlib.Core.Path.{_≡_, sym, ap, _∙_}
 use Prim.Native.Nat.{ℕ, _≤_}
 use native.Mathlib.Omega.{arith}
 use lib.ListN.{length, take}
-use Rattle.frame.specs.declared.version.Version.{Version}
-use Rattle.frame.specs.Version.{recordType, versionOf}
+use Rattle.header_judge.specs.declared.version.Version.{Version}
+use Rattle.header_judge.specs.Version.{recordType, versionOf}
 use Rattle.names.specs.declared.Name.{Name}
 use Rattle.names.specs.Names.{nameOf, textOf}
 use Rattle.names.proofs.Laws.{length-text, take-name, len-held}
+use Rattle.text.proofs.Pieces.{fewer}
 use borrow.Author.Needs.{needs}
 use Rattle.text.proofs.put_name.Statement.{statement}
 use Rattle.text.proofs.put_name.Tie as tie
@@ -29,57 +30,41 @@ module _ (word : ℕ) {v : Version} {n : Name} (ve : v ≡ versionOf word) (ne :
   short : length (take (n .len) (n .bytes)) ≤ 16
   short = rw text (length-text (recordType word))
 
-from-u32-requires : tie.Need-from-u32-requires
-from-u32-requires c κs = search needs
-
-cast-name-of : tie.Need-cast-name-of
-cast-name-of c = search needs
-
-name-of-requires : tie.Need-name-of-requires
-name-of-requires c κs = search needs
+-- the name, at the place where it is put
+abbrev start : tie.After-name-of → tie.Start
+start c = c .before .before .before .before
 
 array-share-prefix-bytes : tie.Need-array-share-prefix-bytes
-array-share-prefix-bytes c =
-    let args = c .before .before .before .before .before .before .args in
-    let from-u32 = c .before .before .before .before .from-u32 in
-    let name-of = c .before .before .name-of in
-    held (args .word) (from-u32 .ensures) (name-of .ensures)
+array-share-prefix-bytes c = let named = c .before .before in held (start named .args .word) (named .before .before .from-u32 .ensures) (named .name-of .ensures)
 
 slice-aggregate-put-text : tie.Need-slice-aggregate-put-text
 slice-aggregate-put-text c =
-    let args = c .before .before .before .before .before .before .before .args in
-    let from-u32 = c .before .before .before .before .before .from-u32 in
-    let name-of = c .before .before .before .name-of in
-    counted (args .word) (from-u32 .ensures) (name-of .ensures)
+    let named = c .before .before .before in
+    counted (start named .args .word) (named .before .before .from-u32 .ensures) (named .name-of .ensures)
 
 put-text-requires : tie.Need-put-text-requires
 put-text-requires c κs =
-    let args = c .before .before .before .before .before .before .before .args in
-    let from-u32 = c .before .before .before .before .before .from-u32 in
-    let name-of = c .before .before .before .name-of in
-    omega (arith, short (args .word) (from-u32 .ensures) (name-of .ensures))
-
-same-length : tie.Need-same-length
-same-length c = search needs
+    let named = c .before .before .before in
+    omega (arith, short (start named .args .word) (named .before .before .from-u32 .ensures) (named .name-of .ensures))
 
 returns : tie.Need-returns
 returns c =
-    let args = c .before .before .before .before .before .before .before .before .before .before .args in
-    let from-u32 = c .before .before .before .before .before .before .before .before .from-u32 in
-    let name-of = c .before .before .before .before .before .before .name-of in
-    let put-text = c .before .before .put-text in
-    let e = text (args .word) (from-u32 .ensures) (name-of .ensures) in
-    (rw e at (put-text .ensures), omega (arith, put-text .ensures .ends, short (args .word) (from-u32 .ensures) (name-of .ensures)))
+    let put = c .before .before in
+    let named = put .before .before .before .before in
+    let word = named .before .before .before .before .args .word in
+    let version = named .before .before .from-u32 .ensures in
+    let e = text word version (named .name-of .ensures) in
+    fewer 16 (rw e at (put .put-text .ensures)) (length-text (recordType word))
 
 pub put-name-spec : {M : Type 1} → statement M
 put-name-spec =
     tie.close
     (tie.spec
-    from-u32-requires
-    cast-name-of
-    name-of-requires
+    (λ c κs. search needs)
+    (λ c. search needs)
+    (λ c κs. search needs)
     array-share-prefix-bytes
     slice-aggregate-put-text
     put-text-requires
-    same-length
+    (λ c. search needs)
     returns)

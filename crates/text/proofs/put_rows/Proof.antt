@@ -1,79 +1,56 @@
--- `put_rows` lays the lines of a table's first rows.
--- The loop's invariant: the lines of the rows passed are laid, each in at most 81 bytes. Assumes nothing.
+-- `put_rows` puts the lines of a table's first rows.
+-- The loop's invariant: the lines of the rows passed are put, each in at most 81 bytes. Assumes nothing.
 use mathlib.Core.Path.{_≡_}
 use mathlib.Core.List.{List}
 use Prim.Native.Nat.{ℕ, _+_, _-_, _*_, _≤_}
 use native.Mathlib.Numerals.{add-one}
 use native.Mathlib.Omega.{arith}
-use lib.ListN.{length, take, drop, length-drop}
-use Rattle.basics.proofs.Parts.{tail-part}
-use Rattle.number.specs.Laid.{Laid}
-use Rattle.text.specs.Dump.{rowOf, rowLine, rowLines}
-use Rattle.number.proofs.Lays.{then, keeps-length, nothing}
+use Rattle.region_rows.specs.declared.Span.{Span}
+use Rattle.region_rows.specs.Rows.{spanAt, spansIn}
+use Rattle.text.specs.Dump.{rowLine, lines}
+use Rattle.text.specs.Steps.{Puts}
+use Rattle.text.proofs.Pieces.{then, keeps-length, nothing, each-none, each-more}
 use borrow.Author.Needs.{needs}
 use Rattle.text.proofs.put_rows.Statement.{statement}
 use Rattle.text.proofs.put_rows.Tie as tie
 
 -- the line of the next row, after those before it
-next-line : {before between after : List ℕ} {at next end : ℕ} (t : List ℕ) (i : ℕ)
-    → Laid before at (rowLines t i) between next
-    → Laid between next (rowLine (rowOf (take (length t - i * 8) (drop (i * 8) t)))) after end
-    → Laid before at (rowLines t (i + 1)) after end
-unfolding rowLines
-next-line t i p q = rw (add-one i) (then p (rw (tail-part t (i * 8)) at q))
+next-line : {before between after : List ℕ} {at next end : ℕ} {r : Span} (t : List ℕ) (i : ℕ) → r ≡ spanAt t i
+    → Puts before at (lines (spansIn t i)) (i * 81) between next → Puts between next (rowLine r) 81 after end
+    → Puts before at (lines (spansIn t (i + 1))) ((i + 1) * 81) after end
+unfolding spansIn
+next-line t i is p q =
+    let more : (i + 1) * 81 ≡ i * 81 + 81 = omega arith in
+    rw (more, add-one i, each-more rowLine (spansIn t i) (spanAt t i)) (then p (rw is at q))
 
 abbrev Inv-loop : tie.InvT-loop
-Inv-loop out₀ at spans rows next₀ i₀ out next i = (i ≤ rows) × Laid out₀ at (rowLines spans i) out next × (next ≤ at + i * 81)
+Inv-loop out₀ at spans rows next₀ i₀ out next i = (i ≤ rows) × Puts out₀ at (lines (spansIn spans i)) (i * 81) out next
 
 abbrev μ-loop : tie.MeasureT-loop
 μ-loop out₀ at spans rows next₀ i₀ out next i = rows - i
 
 loop-holds : tie.Need-loop-holds Inv-loop μ-loop
-unfolding rowLines
-loop-holds c = (omega arith, nothing _ _, omega arith)
-
-mul-from : tie.Need-mul-from Inv-loop μ-loop
-mul-from c = search needs
-
-mul-put-row : tie.Need-mul-put-row Inv-loop μ-loop
-mul-put-row c = search needs
-
-sub-put-row : tie.Need-sub-put-row Inv-loop μ-loop
-sub-put-row c = search needs
-
-part-put-row-start : tie.Need-part-put-row-start Inv-loop μ-loop
-part-put-row-start c = search needs
-
-part-put-row-end : tie.Need-part-put-row-end Inv-loop μ-loop
-part-put-row-end c = search needs
+unfolding spansIn
+loop-holds c = (omega arith, rw (each-none rowLine) (nothing _ _))
 
 put-row-requires : tie.Need-put-row-requires Inv-loop μ-loop
 put-row-requires c κs =
-    let args = c .before .before .before .before .before .before .args in
-    let loop = c .before .before .before .loop in
-    (rw (tail-part (args .spans .now) (loop .i * 8)) (omega (arith, length-drop (loop .i * 8) (args .spans .now))), omega (arith, keeps-length (loop .inv .1)))
-
-add-i : tie.Need-add-i Inv-loop μ-loop
-add-i c = search needs
-
-loop-less : tie.Need-loop-less Inv-loop μ-loop
-loop-less c = search needs
+    let inv = c .before .before .before .loop .inv in
+    omega (arith, inv .1 .few, keeps-length (inv .1))
 
 loop-again : tie.Need-loop-again Inv-loop μ-loop
 loop-again c =
-    let args = c .before .before .before .before .before .before .before .before .before .args in
-    let loop = c .before .before .before .before .before .before .loop in
-    let put-row = c .before .before .put-row in
-    (omega arith, next-line (args .spans .now) (loop .i) (loop .inv .1) (put-row .ensures .0), omega (arith, put-row .ensures .1))
-
-same-length : tie.Need-same-length Inv-loop μ-loop
-same-length c = keeps-length (c .before .loop .inv .1)
+    let put = c .before .before in
+    let got = put .before in
+    let looped = got .before .before .before in
+    let a = looped .before .before .before .args in
+    (omega arith, next-line (a .spans .now) (looped .loop .i) (got .get .ensures) (looped .loop .inv .1) (put .put-row .ensures))
 
 returns : tie.Need-returns Inv-loop μ-loop
 returns c =
-    let args = c .before .before .before .before .args in
-    let e : c .before .loop .i ≡ args .rows = omega arith in
-    (rw e at (c .before .loop .inv .1), rw e at (c .before .loop .inv .2))
+    let looped = c .before in
+    let all : looped .loop .i ≡ looped .before .before .before .args .rows = omega arith in
+    rw all at (looped .loop .inv .1)
 
 pub put-rows-spec : {M : Type 1} → statement M
 put-rows-spec =
@@ -82,14 +59,10 @@ put-rows-spec =
     Inv-loop
     μ-loop
     loop-holds
-    mul-from
-    mul-put-row
-    sub-put-row
-    part-put-row-start
-    part-put-row-end
+    (λ c κs. search needs)
     put-row-requires
-    add-i
-    loop-less
+    (λ c. search needs)
+    (λ c. search needs)
     loop-again
-    same-length
+    (λ c. keeps-length (c .before .loop .inv .1))
     returns)

@@ -10,7 +10,8 @@ use Rattle.cper_descr.proofs.CperSectionDescriptor.to_bytes.Tie as tie
 
 abbrev start : (c : tie.After-put-start) → Laid descriptorSize 16 (c .put-start .last .0)
 start c =
-    let first = c .before .before .before .before .before .before in
+    let known = c .before .before .before in
+    let first = known .before .before .before in
     laid-start (first .args .out .now) (first .pre) (first .args .self .«section_offset») (c .put-start .ensures) refl refl refl refl
 
 abbrev type : (c : tie.After-put16) → Laid descriptorSize 32 (c .put16 .last .0)
@@ -25,26 +26,14 @@ severity c = laid-number (fru (c .before .before .before .before .before)) 4 tt 
 abbrev text : (c : tie.After-put20) → Laid descriptorSize 72 (c .put20 .last .0)
 text c = laid-bytes (severity (c .before .before .before .before .before)) 20 (c .put20 .ensures) (c .before .present20 .ensures)
 
-put-start-requires : tie.Need-put-start-requires
-put-start-requires c κs = search needs
-
 put16-requires : tie.Need-put16-requires
 put16-requires c κs = room-for (start (c .before .before .before)) 16 tt
-
-present16-requires : tie.Need-present16-requires
-present16-requires c κs = search needs
 
 put16-requires-2 : tie.Need-put16-requires-2
 put16-requires-2 c κs = room-for (type (c .before .before .before .before)) 16 tt
 
-severity-number-requires : tie.Need-severity-number-requires
-severity-number-requires c κs = search needs
-
 put-u32-requires : tie.Need-put-u32-requires
 put-u32-requires c κs = room-for (fru (c .before .before .before .before)) 4 tt
-
-present20-requires : tie.Need-present20-requires
-present20-requires c κs = search needs
 
 put20-requires : tie.Need-put20-requires
 put20-requires c κs = room-for (severity (c .before .before .before .before)) 20 tt
@@ -60,13 +49,13 @@ pub to-bytes-spec : {M : Type 1} → statement M
 to-bytes-spec =
     tie.close
     (tie.spec
-    put-start-requires
+    (λ c κs. search needs)
     put16-requires
-    present16-requires
+    (λ c κs. search needs)
     put16-requires-2
-    severity-number-requires
+    (λ c κs. search needs)
     put-u32-requires
-    present20-requires
+    (λ c κs. search needs)
     put20-requires
     same-length
     returns)

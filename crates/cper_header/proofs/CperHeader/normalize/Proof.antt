@@ -1,23 +1,8 @@
 -- `CperHeader::normalize` sets the validation number to the bits of the fields that are present.
--- Assumes nothing.
+-- By the three numbers that it adds. Assumes nothing.
 use borrow.Author.Needs.{needs}
 use Rattle.cper_header.proofs.CperHeader.normalize.Statement.{statement}
 use Rattle.cper_header.proofs.CperHeader.normalize.Tie as tie
-
-number-if-requires : tie.Need-number-if-requires
-number-if-requires c κs = search needs
-
-number-if-requires-2 : tie.Need-number-if-requires-2
-number-if-requires-2 c κs = search needs
-
-number-if-requires-3 : tie.Need-number-if-requires-3
-number-if-requires-3 c κs = search needs
-
-add-self : tie.Need-add-self
-add-self c = search needs
-
-add-self-2 : tie.Need-add-self-2
-add-self-2 c = search needs
 
 returns : tie.Need-returns
 returns c = rw (c .before .before .number-if .ensures .0, c .before .number-if2 .ensures .0, c .number-if3 .ensures .0)
@@ -26,9 +11,9 @@ pub normalize-spec : {M : Type 1} → statement M
 normalize-spec =
     tie.close
     (tie.spec
-    number-if-requires
-    number-if-requires-2
-    number-if-requires-3
-    add-self
-    add-self-2
+    (λ c κs. search needs)
+    (λ c κs. search needs)
+    (λ c κs. search needs)
+    (λ c. search needs)
+    (λ c. search needs)
     returns)

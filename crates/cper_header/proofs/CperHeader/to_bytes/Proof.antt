@@ -17,7 +17,8 @@ use Rattle.cper_header.proofs.CperHeader.to_bytes.Tie as tie
 
 abbrev signed : (c : tie.After-sign) → Laid headerSize 4 (c .sign .last .0)
 signed c =
-    let start = c .before .before .before .before .before .before .before .before in
+    let known = c .before .before .before .before in
+    let start = known .before .before .before .before in
     record { base = start .args .out .now; front = signature; room = start .pre; is = c .sign .ensures; long = refl }
 
 abbrev revision : (c : tie.After-put-u16) → Laid headerSize 6 (c .put-u16 .last .0)
@@ -70,9 +71,6 @@ whole c = laid-number (reserved (c .before .before .before .before)) 4 tt (c .pu
 
 -- ---- the needs
 
-sign-requires : tie.Need-sign-requires
-sign-requires c κs = search needs
-
 put-u16-requires : tie.Need-put-u16-requires
 put-u16-requires c κs = room-for (signed (c .before .before .before)) 2 tt
 
@@ -81,9 +79,6 @@ put-u32-requires c κs = room-for (revision (c .before .before .before)) 4 tt
 
 put-u16-requires-2 : tie.Need-put-u16-requires-2
 put-u16-requires-2 c κs = room-for (end (c .before .before .before)) 2 tt
-
-severity-number-requires : tie.Need-severity-number-requires
-severity-number-requires c κs = search needs
 
 put-u32-requires-2 : tie.Need-put-u32-requires-2
 put-u32-requires-2 c κs = room-for (count (c .before .before .before .before)) 4 tt
@@ -94,20 +89,11 @@ put-u32-requires-3 c κs = room-for (severity (c .before .before .before)) 4 tt
 put-u32-requires-4 : tie.Need-put-u32-requires-4
 put-u32-requires-4 c κs = room-for (bits (c .before .before .before)) 4 tt
 
-to-bytes-requires : tie.Need-to-bytes-requires
-to-bytes-requires c κs = search needs
-
 put8-requires : tie.Need-put8-requires
 put8-requires c κs = room-for (length (c .before .before .before .before)) 8 tt
 
-present16-requires : tie.Need-present16-requires
-present16-requires c κs = search needs
-
 put16-requires : tie.Need-put16-requires
 put16-requires c κs = room-for (timestamp (c .before .before .before .before)) 16 tt
-
-present16-requires-2 : tie.Need-present16-requires-2
-present16-requires-2 c κs = search needs
 
 put16-requires-2 : tie.Need-put16-requires-2
 put16-requires-2 c κs = room-for (platform (c .before .before .before .before)) 16 tt
@@ -139,26 +125,27 @@ same-length c = length-laid (whole (c .before .before)) tt
 returns : tie.Need-returns
 unfolding headerBytes digits
 returns c =
-    let all = whole (c .before .before) in
-    all .is ∙ ap (λ (l : List ℕ). l ++ drop headerSize (all .base)) (append-assoc (persistence (c .before .before .before .before .before .before .before .before .before .before) .front) (zeros 8) (zeros 4))
+    let last = c .before .before in
+    let eight = last .before .before .before .before in
+    whole last .is ∙ ap (λ (l : List ℕ). l ++ drop headerSize (whole last .base)) (append-assoc (persistence (eight .before .before .before .before) .front) (zeros 8) (zeros 4))
 
 pub to-bytes-spec : {M : Type 1} → statement M
 to-bytes-spec =
     tie.close
     (tie.spec
-    sign-requires
+    (λ c κs. search needs)
     put-u16-requires
     put-u32-requires
     put-u16-requires-2
-    severity-number-requires
+    (λ c κs. search needs)
     put-u32-requires-2
     put-u32-requires-3
     put-u32-requires-4
-    to-bytes-requires
+    (λ c κs. search needs)
     put8-requires
-    present16-requires
+    (λ c κs. search needs)
     put16-requires
-    present16-requires-2
+    (λ c κs. search needs)
     put16-requires-2
     put16-requires-3
     put16-requires-4

@@ -1,18 +1,11 @@
 -- `extended_record_offset` gives where the extended record starts.
 -- By the test of its size. Assumes nothing.
-use mathlib.Core.Path.{_≡_, sym, ap, _∙_}
-use Prim.Native.Nat.{ℕ}
+use mathlib.Core.Path.{ap}
 use borrow.Author.Tests.{lt-ltb, le-ltb}
 use Rattle.header.specs.declared.access.Extended.{Extended}
 use borrow.Author.Needs.{needs}
 use Rattle.header.proofs.Header.extended_record_offset.Statement.{statement}
 use Rattle.header.proofs.Header.extended_record_offset.Tie as tie
-
-cast-in-bytes : tie.Need-cast-in-bytes
-cast-in-bytes c = search needs
-
-in-bytes-requires : tie.Need-in-bytes-requires
-in-bytes-requires c κs = search needs
 
 returns : tie.Need-returns
 returns c =
@@ -24,4 +17,4 @@ returns-2 c = rw (le-ltb _ _ (c .if1 .left))
 
 pub extended-record-offset-spec : {M : Type 1} → statement M
 extended-record-offset-spec =
-    tie.close (tie.spec cast-in-bytes in-bytes-requires returns returns-2)
+    tie.close (tie.spec (λ c. search needs) (λ c κs. search needs) returns returns-2)

@@ -1,18 +1,17 @@
 -- `statuses_of` gives the status words of a layout.
 -- Only type 6 has some. Assumes nothing.
-use mathlib.Core.Path.{_≡_, refl, sym, ap, _∙_}
+use mathlib.Core.Path.{_≡_, sym, ap, _∙_}
 use mathlib.Core.List.{List, [], _∷_}
 use types.Run.{OneOf, miss}
 use denote.Enum.Declared.{tagOf}
-use Rattle.frame.proofs.Layout.{the-type as layout-type}
+use Rattle.header_judge.proofs.Layout.{the-type as layout-type}
 use Prim.Native.Nat.{ℕ, _+_, _*_, _≤_}
-use lib.ListN.{length, replicate}
-use Rattle.frame.specs.Frame.{sizeFor, countOf}
-use Rattle.frame.specs.declared.Layout.the-variants.{Six}
-use native.Mathlib.Omega.{arith}
+use lib.ListN.{length}
+use Rattle.header_judge.specs.Head.{sizeFor, countOf}
+use Rattle.header_judge.specs.declared.Layout.the-variants.{Six}
 use Rattle.layout.specs.Fields.{readAll}
 use Rattle.layout.specs.Runs.{cells}
-use Rattle.frame.specs.declared.Layout.{Layout}
+use Rattle.header_judge.specs.declared.Layout.{Layout}
 use Rattle.header.specs.Layouts.{padded, statusesFrom}
 use Rattle.header.specs.Header.{numbersOf}
 use Rattle.header.proofs.Statuses.{statuses-six, statuses-none}
@@ -30,12 +29,6 @@ other l o e = miss others 6 tt (rw e at o)
 -- the bytes of type 6 are there
 there : (bs : List ℕ) {l : Layout} → l ≡ Six → sizeFor l (countOf bs) ≤ length bs → 28 + 4 * countOf bs ≤ length bs
 there bs e h = rw e at h
-
-enum-told : tie.Need-enum-told
-enum-told c = search needs
-
-count-of-requires : tie.Need-count-of-requires
-count-of-requires c κs = search needs
 
 words-of-requires : tie.Need-words-of-requires
 words-of-requires c κs =
@@ -61,4 +54,4 @@ returns-2 c =
 
 pub statuses-of-spec : {M : Type 1} → statement M
 statuses-of-spec =
-    tie.close (tie.spec enum-told count-of-requires words-of-requires returns returns-2)
+    tie.close (tie.spec (λ c. search needs) (λ c κs. search needs) words-of-requires returns returns-2)

@@ -6,15 +6,9 @@ use borrow.Author.Needs.{needs}
 use Rattle.header.proofs.fields.type0_legacy_gpu.Statement.{statement}
 use Rattle.header.proofs.fields.type0_legacy_gpu.Tie as tie
 
-legacy-stamp-of-requires : tie.Need-legacy-stamp-of-requires
-legacy-stamp-of-requires c κs = search needs
-
-status-at-requires : tie.Need-status-at-requires
-status-at-requires c κs = search needs
-
 returns : tie.Need-returns
 unfolding numbersOf readAll
 returns c = cc
 
 pub type0-legacy-gpu-spec : {M : Type 1} → statement M
-type0-legacy-gpu-spec = tie.close (tie.spec legacy-stamp-of-requires status-at-requires returns)
+type0-legacy-gpu-spec = tie.close (tie.spec (λ c κs. search needs) (λ c κs. search needs) returns)

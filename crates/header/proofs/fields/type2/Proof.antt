@@ -6,12 +6,9 @@ use borrow.Author.Needs.{needs}
 use Rattle.header.proofs.fields.type2.Statement.{statement}
 use Rattle.header.proofs.fields.type2.Tie as tie
 
-stamp-of-requires : tie.Need-stamp-of-requires
-stamp-of-requires c κs = search needs
-
 returns : tie.Need-returns
 unfolding numbersOf readAll
 returns c = cc
 
 pub type2-spec : {M : Type 1} → statement M
-type2-spec = tie.close (tie.spec stamp-of-requires returns)
+type2-spec = tie.close (tie.spec (λ c κs. search needs) returns)

@@ -6,15 +6,9 @@ use borrow.Author.Needs.{needs}
 use Rattle.header.proofs.fields.type3.Statement.{statement}
 use Rattle.header.proofs.fields.type3.Tie as tie
 
-stamp-of-requires : tie.Need-stamp-of-requires
-stamp-of-requires c κs = search needs
-
-status-at-requires : tie.Need-status-at-requires
-status-at-requires c κs = search needs
-
 returns : tie.Need-returns
 unfolding numbersOf readAll
 returns c = cc
 
 pub type3-spec : {M : Type 1} → statement M
-type3-spec = tie.close (tie.spec stamp-of-requires status-at-requires returns)
+type3-spec = tie.close (tie.spec (λ c κs. search needs) (λ c κs. search needs) returns)

@@ -1,2 +1,0 @@
-pub mod Version
-pub mod Frame

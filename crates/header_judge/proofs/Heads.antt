@@ -1,0 +1,89 @@
+-- The header by its parts: what it is, from its word and its size.
+-- By the tests of the definition, in their order. Assumes nothing.
+use mathlib.Core.Path.{_≡_, refl, sym, _∙_}
+use mathlib.Core.Bool.{Bool, true, false, cond}
+use mathlib.Core.List.{List}
+use Prim.Native.Nat.{ℕ, zero, suc, _<_}
+use native.Mathlib.Omega.{arith}
+use lib.Dec.{eqb}
+use borrow.Author.Tests.{eq-eqb, ne-eqb, eqb-false}
+use Rattle.rules.specs.Rules.{flagsOf}
+use Rattle.header_judge.specs.Version.{noWord, wordOf, headerType}
+use Rattle.header_judge.specs.Head.{declaredOf, noSize, lacking, sizeOf, headWith, headOf}
+use Rattle.header_judge.specs.declared.Head.the-variants.{Ended, BadHeader, BadType, Record}
+
+module _ (bs : List ℕ) (word flags : ℕ) where
+  pub head-ended : word ≡ noWord → headWith bs word flags ≡ Ended
+  unfolding headWith
+  head-ended e = rw (eq-eqb word noWord e)
+
+  pub head-bad-type : (word ≡ noWord → ⊥) → sizeOf bs word flags ≡ noSize → headWith bs word flags ≡ BadType (headerType word)
+  unfolding headWith
+  head-bad-type f e = rw (ne-eqb word noWord f, eq-eqb (sizeOf bs word flags) noSize e)
+
+  pub head-bad-header : (word ≡ noWord → ⊥) → sizeOf bs word flags ≡ lacking → headWith bs word flags ≡ BadHeader
+  unfolding headWith
+  head-bad-header f e = rw (ne-eqb word noWord f, e)
+
+  pub head-record : (word ≡ noWord → ⊥) → lacking < sizeOf bs word flags
+      → headWith bs word flags ≡ Record word flags (declaredOf bs flags) (sizeOf bs word flags)
+  unfolding headWith
+  head-record f h =
+      let no-type : sizeOf bs word flags ≡ noSize → ⊥ = λ e. omega arith in
+      let no-lack : sizeOf bs word flags ≡ lacking → ⊥ = λ e. omega arith in
+      rw (ne-eqb word noWord f, ne-eqb (sizeOf bs word flags) noSize no-type, ne-eqb (sizeOf bs word flags) lacking no-lack)
+
+-- ---- a record that was found
+
+pub record Told (rules bs : List ℕ) (word flags declared size : ℕ) : Type 0 where
+  pub word-is : word ≡ wordOf bs
+  pub there : word ≡ noWord → ⊥
+  pub flags-are : flags ≡ flagsOf rules word
+  pub declared-is : declared ≡ declaredOf bs flags
+  pub size-is : size ≡ sizeOf bs word flags
+  pub found : lacking < sizeOf bs word flags
+
+pub record-told : (rules bs : List ℕ) {word flags declared size : ℕ} → headOf rules bs ≡ Record word flags declared size → Told rules bs word flags declared size
+unfolding headOf headWith
+record-told rules bs {word} {flags} {declared} {size} h =
+    by (eqb w noWord) refl (eqb z noSize) refl (eqb z lacking) refl h
+  where
+    w : ℕ
+    w = wordOf bs
+
+    f : ℕ
+    f = flagsOf rules w
+
+    z : ℕ
+    z = sizeOf bs w f
+
+    by : (i : Bool) → eqb w noWord ≡ i → (j : Bool) → eqb z noSize ≡ j → (k : Bool) → eqb z lacking ≡ k
+        → cond i Ended (cond j (BadType (headerType w)) (cond k BadHeader (Record w f (declaredOf bs f) z))) ≡ Record word flags declared size
+        → Told rules bs word flags declared size
+    by true i j p k q h = absurd (let o : _≡_ {A = ℕ} 0 1 = cc in omega arith)
+    by false i true p k q h = absurd (let o : _≡_ {A = ℕ} 0 1 = cc in omega arith)
+    by false i false p true q h = absurd (let o : _≡_ {A = ℕ} 0 1 = cc in omega arith)
+    by false i false p false q h =
+        let word-is : word ≡ w = cc in
+        let flags-are : flags ≡ f = cc in
+        let declared-is : declared ≡ declaredOf bs f = cc in
+        let size-is : size ≡ z = cc in
+        let some : z ≡ noSize → ⊥ = eqb-false z noSize p in
+        let more : z ≡ lacking → ⊥ = eqb-false z lacking q in
+        record {
+          word-is = word-is;
+          there = λ e. eqb-false w noWord i (sym word-is ∙ e);
+          flags-are = rw word-is flags-are;
+          declared-is = rw flags-are declared-is;
+          size-is = rw (word-is, flags-are) size-is;
+          found = rw (word-is, flags-are) (omega arith);
+        }
+
+-- the flags of a word that is none do not matter
+pub head-known : (rules bs : List ℕ) (word flags : ℕ) → word ≡ wordOf bs → ((word ≡ noWord → ⊥) → flags ≡ flagsOf rules word)
+    → headWith bs word flags ≡ headOf rules bs
+unfolding headOf
+head-known rules bs zero flags e f = head-ended bs 0 flags refl ∙ rw (← e) (sym (head-ended bs 0 (flagsOf rules 0) refl))
+head-known rules bs (suc n) flags e f =
+    let k : flags ≡ flagsOf rules (suc n) = f (λ z. omega arith) in
+    rw (← e, k)

@@ -1,0 +1,117 @@
+-- What the header at the start of some bytes is, as far as a span row needs it (document 01, 'Record header').
+use Prim.Native.Nat.{ℕ, _+_, _*_, _%_}
+use mathlib.Core.List.{List, [], _∷_}
+use mathlib.Core.Bool.{Bool, cond, _||_}
+use lib.Dec.{eqb, ltb}
+use lib.ListN.{length, getD}
+use Rattle.answers.specs.Numbers.{done, badHeader, badType, ended}
+use Rattle.le.specs.Le.{le}
+use Rattle.rules.specs.Rules.{has, legacyServer, legacyGpu, legacyServerBox, sizesInBytes, flagsOf}
+use Rattle.header_judge.specs.Version.{noWord, wordOf, headerType, recordType}
+use Rattle.header_judge.specs.declared.Layout.{Layout}
+use Rattle.header_judge.specs.declared.Layout.the-variants.{Zero, One, Two, Three, Four, Five, Six, LegacyServer, LegacyGpu, Bad}
+use Rattle.header_judge.specs.declared.Shape.{Shape}
+use Rattle.header_judge.specs.declared.Head.{Head}
+use Rattle.header_judge.specs.declared.Head.the-variants.{Ended, BadHeader, BadType, Record}
+
+-- ---- sizes
+
+-- flag 1 or 2
+abbrev pub legacy : ℕ → Bool
+legacy flags = has flags legacyServer || has flags legacyGpu
+
+-- the record's size and its extended size as they are written
+abbrev pub recordSize : List ℕ → ℕ → ℕ
+recordSize bs flags = cond (legacy flags) (le 2 bs 16) (le 2 bs 4)
+
+abbrev pub extendedSize : List ℕ → ℕ → ℕ
+extendedSize bs flags = cond (legacy flags) 0 (le 2 bs 6)
+
+-- where the size fields end
+abbrev pub sizesEnd : ℕ → ℕ
+sizesEnd flags = cond (legacy flags) 18 8
+
+-- the bytes that sizes count in
+abbrev pub unit : ℕ → ℕ
+unit flags = cond (has flags sizesInBytes) 1 4
+
+-- the bytes that a record declares
+unfoldable pub declaredOf : List ℕ → ℕ → ℕ
+declaredOf bs flags = (recordSize bs flags + extendedSize bs flags) * unit flags
+
+-- ---- layout
+
+-- the layouts of the header types 0 to 6; every other type is bad
+abbrev pub typeLayout : ℕ → Layout
+typeLayout t = getD (Zero ∷ One ∷ Two ∷ Three ∷ Four ∷ Five ∷ Six ∷ []) t Bad
+
+-- flag 1 chooses the legacy server layout, else flag 2 the legacy GPU layout, else the header type decides
+abbrev pub layoutOf : ℕ → ℕ → Layout
+layoutOf word flags =
+    cond (has flags legacyServer) LegacyServer
+    (cond (has flags legacyGpu) LegacyGpu (typeLayout (headerType word)))
+
+-- ---- header size
+
+-- what stands for a size where there is none: the type is bad
+abbrev pub noSize : ℕ
+noSize = 0
+
+-- or bytes are lacking
+abbrev pub lacking : ℕ
+lacking = 1
+
+-- the size of a layout's header, with so many status words
+abbrev pub sizeFor : Layout → ℕ → ℕ
+sizeFor Zero count = 8
+sizeFor One count = 8
+sizeFor Two count = 24
+sizeFor Three count = 28
+sizeFor Four count = 32
+sizeFor Five count = 32
+sizeFor Six count = 28 + 4 * count
+sizeFor LegacyServer count = 32
+sizeFor LegacyGpu count = 32
+sizeFor Bad count = noSize
+
+-- the count of status words of a type 6 header; 0 where its bytes are lacking
+abbrev pub countOf : List ℕ → ℕ
+countOf bs = cond (ltb (length bs) 28) 0 (le 2 bs 26 % 128)
+
+-- the layout that a header type chooses, and the header's size
+abbrev pub shapeOf : List ℕ → ℕ → Shape
+shapeOf bs t = record { layout = typeLayout t; size = sizeFor (typeLayout t) (countOf bs) }
+
+-- a size, where there are so many bytes
+abbrev pub enough : List ℕ → ℕ → ℕ
+enough bs size = cond (ltb (length bs) size) lacking size
+
+-- the header's size, or that bytes are lacking, or that its type is bad; the sizes are read before the type is judged
+unfoldable pub sizeOf : List ℕ → ℕ → ℕ → ℕ
+sizeOf bs word flags =
+    cond (ltb (length bs) (sizesEnd flags)) lacking (enough bs (sizeFor (layoutOf word flags) (countOf bs)))
+
+-- ---- one try
+
+-- a Box: record type 0x3D, or flag 4
+abbrev pub isBox : ℕ → ℕ → Bool
+isBox word flags = eqb (recordType word) 0x3d || has flags legacyServerBox
+
+-- the header, where its word and flags are known
+unfoldable pub headWith : List ℕ → ℕ → ℕ → Head
+headWith bs word flags =
+    cond (eqb word noWord) Ended
+    (cond (eqb (sizeOf bs word flags) noSize) (BadType (headerType word))
+    (cond (eqb (sizeOf bs word flags) lacking) BadHeader
+    (Record word flags (declaredOf bs flags) (sizeOf bs word flags))))
+
+-- the header at the start of some bytes, under a rule table
+unfoldable pub headOf : List ℕ → List ℕ → Head
+headOf rules bs = headWith bs (wordOf bs) (flagsOf rules (wordOf bs))
+
+-- document 01's number of each case
+abbrev pub numberOf : Head → ℕ
+numberOf Ended = ended
+numberOf BadHeader = badHeader
+numberOf (BadType t) = badType
+numberOf (Record word flags declared size) = done

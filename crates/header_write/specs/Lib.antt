@@ -1,0 +1,3 @@
+pub mod Values
+pub mod Fit
+pub mod Steps

@@ -1,0 +1,85 @@
+-- What a try finds from what it is, and what it is from what it finds.
+-- By the definition's cases. Assumes nothing.
+use mathlib.Core.Path.{_≡_, refl, ap}
+use mathlib.Core.List.{List}
+use mathlib.Core.Bool.{Bool, true, false, cond}
+use Prim.Native.Nat.{ℕ, _≤_, _<_}
+use native.Mathlib.Omega.{arith}
+use lib.Dec.{leb}
+use borrow.Author.Tests.{leb-false, le-leb, lt-leb}
+use Rattle.header_judge.specs.Head.{isBox}
+use Rattle.header_judge.specs.declared.Head.{Head}
+use Rattle.region_rows.specs.declared.Span.{Span}
+use Rattle.region_rows.specs.Rows.{withSpan}
+use Rattle.region_try.specs.Tries.{Try, none, hit}
+use Rattle.region_try.specs.Steps.{found}
+use Rattle.region_try.specs.declared.Found.{Found}
+use Rattle.region_try.specs.declared.Found.the-variants.{Nothing, NoRoom, Row}
+
+-- ---- what is found from the try
+
+module _ (room rows : ℕ) (t : List ℕ) {v : Try} where
+  pub finds-nothing : {o : ℕ} {head : Head} → v ≡ none o head → _≡_ {A = List ℕ × Found} (t, Nothing) (found room rows v t)
+  unfolding found
+  finds-nothing e = rw e
+
+  pub finds-no-room : {r : Span} → v ≡ hit r → room ≤ rows → _≡_ {A = List ℕ × Found} (t, NoRoom) (found room rows v t)
+  unfolding found
+  finds-no-room e h = rw (e, le-leb room rows h)
+
+  pub finds-row : {r : Span} → v ≡ hit r → rows < room
+      → _≡_ {A = List ℕ × Found} (withSpan t rows r, Row (r .held) (r .declared) (r .size) (isBox (r .word) (r .flags))) (found room rows v t)
+  unfolding found
+  finds-row e h = rw (e, lt-leb room rows h)
+
+-- ---- the try from what was found
+
+-- the try that a row comes from
+pub record Hit (room rows : ℕ) (v : Try) (h d z : ℕ) (b : Bool) : Type 0 where
+  pub row : Span
+  pub is : v ≡ hit row
+  pub held : h ≡ row .held
+  pub declared : d ≡ row .declared
+  pub size : z ≡ row .size
+  pub boxed : b ≡ isBox (row .word) (row .flags)
+  pub free : rows < room
+
+nothing-apart : (f : Found) → Nothing ≡ f → (f ≡ NoRoom → ⊥) × ((h d z : ℕ) (b : Bool) → f ≡ Row h d z b → ⊥)
+nothing-apart f e = (
+  λ k. let z : _≡_ {A = ℕ} 0 1 = cc in omega arith,
+  λ h d z b k. let z : _≡_ {A = ℕ} 0 1 = cc in omega arith,
+)
+
+row-apart : (h d z : ℕ) (b : Bool) → (Row h d z b ≡ Nothing → ⊥) × (Row h d z b ≡ NoRoom → ⊥)
+row-apart h d z b = (
+  λ k. let z : _≡_ {A = ℕ} 0 1 = cc in omega arith,
+  λ k. let z : _≡_ {A = ℕ} 0 1 = cc in omega arith,
+)
+
+row-parts : {h d z h₁ d₁ z₁ : ℕ} {b b₁ : Bool} → Row h d z b ≡ Row h₁ d₁ z₁ b₁ → (h ≡ h₁) × (d ≡ d₁) × (z ≡ z₁) × (b ≡ b₁)
+row-parts e = (cc, cc, cc, cc)
+
+module _ (room rows : ℕ) (t t₁ : List ℕ) where
+  -- what a record finds, where there is room or not
+  abbrev kind : Span → Bool → List ℕ × Found
+  kind r full = cond full (t, NoRoom) (withSpan t rows r, Row (r .held) (r .declared) (r .size) (isBox (r .word) (r .flags)))
+
+  pub found-nothing : (v : Try) → _≡_ {A = List ℕ × Found} (t₁, Nothing) (found room rows v t) → (o : ℕ) × (head : Head) × (v ≡ none o head)
+  unfolding found
+  found-nothing (none o head) e = (o, head, refl)
+  found-nothing (hit r) e = absurd (by (leb room rows) (ap (λ (m : List ℕ × Found). m .1) e))
+    where
+      by : (full : Bool) → Nothing ≡ kind r full .1 → ⊥
+      by true e = nothing-apart NoRoom e .0 refl
+      by false e = nothing-apart (Row (r .held) (r .declared) (r .size) (isBox (r .word) (r .flags))) e .1 (r .held) (r .declared) (r .size) (isBox (r .word) (r .flags)) refl
+
+  pub found-row : (h d z : ℕ) (b : Bool) (v : Try) → _≡_ {A = List ℕ × Found} (t₁, Row h d z b) (found room rows v t) → Hit room rows v h d z b
+  unfolding found
+  found-row h d z b (none o head) e = absurd (row-apart h d z b .0 (ap (λ (m : List ℕ × Found). m .1) e))
+  found-row h d z b (hit r) e = by (leb room rows) refl (ap (λ (m : List ℕ × Found). m .1) e)
+    where
+      by : (full : Bool) → leb room rows ≡ full → Row h d z b ≡ kind r full .1 → Hit room rows (hit r) h d z b
+      by true f e = absurd (row-apart h d z b .1 e)
+      by false f e =
+          let q = row-parts e in
+          record { row = r; is = refl; held = q .0; declared = q .1; size = q .2; boxed = q .3; free = leb-false room rows f }

@@ -1,0 +1,5 @@
+pub mod Heads
+pub mod Finds
+pub mod Tries
+pub mod Runs
+pub mod Bound

@@ -1,0 +1,101 @@
+-- `try_at` gives what the try of the header finds, and writes its row where there is room.
+-- Each return is one case of the header by its parts. Assumes nothing.
+use mathlib.Core.Path.{_≡_}
+use Prim.Native.Nat.{_<_, _≤_}
+use native.Mathlib.Omega.{arith}
+use lib.ListN.{length}
+use denote.Ref.{now}
+use Rattle.header_judge.specs.Head.{lacking, sizeOf, declaredOf}
+use Rattle.region_try.specs.Tries.{hit, spanOf}
+use Rattle.region_try.specs.Steps.{tryAt}
+use Rattle.region_try.proofs.Heads.{ended-stops, sizeless-stops, empty-stops, record-hit}
+use Rattle.region_try.proofs.Finds.{finds-nothing, finds-no-room, finds-row}
+use borrow.Author.Needs.{needs}
+use Rattle.region_try.proofs.try_at.Statement.{statement}
+use Rattle.region_try.proofs.try_at.Tie as tie
+
+-- the places: the start, from the calls on the way
+abbrev sized : tie.After-size-of → tie.Start
+sized c = c .before .before .before .before
+
+abbrev declared : tie.After-declared-of → tie.Start
+declared c = sized (c .before .before)
+
+abbrev roomy : tie.After-least → tie.After-declared-of
+roomy c = c .before .before .before
+
+returns : tie.Need-returns
+returns c =
+    let a = c .before .before .before .args in
+    (finds-nothing (a .room) (a .rows) (now (a .spans)) (ended-stops (a .level) (a .parent) (a .offset) (now (a .bytes)) (a .word) (a .flags) (omega arith)), tt)
+
+returns-2 : tie.Need-returns-2
+returns-2 c =
+    let a = sized (c .before) .args in
+    let small : sizeOf (now (a .bytes)) (a .word) (a .flags) ≤ lacking = omega arith in
+    (finds-nothing (a .room) (a .rows) (now (a .spans)) (sizeless-stops (a .level) (a .parent) (a .offset) (now (a .bytes)) (a .word) (a .flags) (λ e. omega arith) small), tt)
+
+declared-of-requires : tie.Need-declared-of-requires
+declared-of-requires c κs = c .before .size-of .ensures .1 (omega arith) .sizes
+
+returns-3 : tie.Need-returns-3
+returns-3 c =
+    let a = declared (c .before) .args in
+    let there : lacking < sizeOf (now (a .bytes)) (a .word) (a .flags) = omega arith in
+    let none : declaredOf (now (a .bytes)) (a .flags) ≡ 0 = omega arith in
+    (finds-nothing (a .room) (a .rows) (now (a .spans)) (empty-stops (a .level) (a .parent) (a .offset) (now (a .bytes)) (a .word) (a .flags) (λ e. omega arith) there none), tt)
+
+-- past the three tests a record is there
+is-record : (c : tie.Else3) → let a = declared (c .before) .args in
+    tryAt (a .level) (a .parent) (a .offset) (now (a .bytes)) (a .word) (a .flags)
+    ≡ hit (spanOf (a .level) (a .parent) (a .offset) (length (now (a .bytes))) (a .word) (a .flags) (declaredOf (now (a .bytes)) (a .flags)) (sizeOf (now (a .bytes)) (a .word) (a .flags)))
+is-record c =
+    let a = declared (c .before) .args in
+    let there : lacking < sizeOf (now (a .bytes)) (a .word) (a .flags) = omega arith in
+    let some : declaredOf (now (a .bytes)) (a .flags) ≡ 0 → ⊥ = λ e. omega arith in
+    record-hit (a .level) (a .parent) (a .offset) (now (a .bytes)) (a .word) (a .flags) (λ e. omega arith) there some
+
+returns-4 : tie.Need-returns-4
+returns-4 c =
+    let a = declared (c .before .before) .args in
+    (finds-no-room (a .room) (a .rows) (now (a .spans)) (is-record (c .before)) (omega arith), tt)
+
+-- the header's size, which is within its bounds
+size-bounds : (c : tie.After-declared-of) → let a = declared c .args in (8 ≤ c .before .before .size-of .result) × (c .before .before .size-of .result ≤ 536)
+size-bounds c = let q = c .before .before .size-of .ensures .1 (omega arith) in (q .least, q .most)
+
+cast-size : tie.Need-cast-t19
+cast-size c = let q = size-bounds (roomy c) in omega arith
+
+returns-5 : tie.Need-returns-5
+returns-5 c =
+    let put = c .before .before .before in
+    let least = put .before .before in
+    let declared-of = least .before .before .before in
+    let size-of = declared-of .before .before in
+    let a = size-of .before .before .before .before .args in
+    let q = size-bounds declared-of in (
+      rw (put .put .ensures, c .is-box .ensures, least .least .ensures, size-of .size-of .ensures .0, declared-of .declared-of .ensures .0)
+          (finds-row (a .room) (a .rows) (now (a .spans)) (is-record (least .before .before)) (omega arith)),
+      (omega arith, omega arith, omega arith, omega arith),
+    )
+
+pub try-at-spec : {M : Type 1} → statement M
+try-at-spec =
+    tie.close
+    (tie.spec
+    returns
+    (λ c κs. search needs)
+    returns-2
+    declared-of-requires
+    returns-3
+    returns-4
+    (λ c κs. search needs)
+    (λ c. search needs)
+    (λ c. search needs)
+    (λ c. search needs)
+    cast-size
+    (λ c κs. search needs)
+    (λ c κs. search needs)
+    (λ c. search needs)
+    returns-5)

@@ -1,0 +1,66 @@
+-- What the inner functions of the walk give: tries made one after the other under a limit, into the rows of a table that has so much room.
+use Prim.Native.Nat.{ℕ, _+_, _≤_, _<_}
+use mathlib.Core.List.{List, [], _∷_}
+use mathlib.Core.Bool.{Bool, cond, _&&_}
+use lib.Dec.{eqb, leb}
+use lib.ListN.{length}
+use Rattle.header_judge.specs.Head.{isBox, headWith}
+use Rattle.region_rows.specs.Rows.{withSpan}
+use Rattle.region_try.specs.Tries.{Try, none, hit, tryOf}
+use Rattle.region_try.specs.declared.Cut.{Cut}
+use Rattle.region_try.specs.declared.Cut.the-variants.{Going, Full, Spent}
+use Rattle.region_try.specs.declared.State.{State}
+use Rattle.region_try.specs.declared.Found.{Found}
+use Rattle.region_try.specs.declared.Found.the-variants.{Nothing, NoRoom, Row}
+
+-- a walk so far: the table and the counts
+abbrev pub Walk : Type 0
+Walk = List ℕ × State
+
+-- rows, tries, whether no row holds less than it declares, and what cut the walk off
+abbrev pub state : ℕ → ℕ → Bool → Cut → State
+state rows tries whole cut = record { rows = rows; tries = tries; whole = whole; cut = cut }
+
+-- the try of the header at the start of some bytes, whose word and flags are known
+abbrev pub tryAt : ℕ → ℕ → ℕ → List ℕ → ℕ → ℕ → Try
+tryAt level parent offset bytes word flags = tryOf level parent offset (length bytes) (headWith bytes word flags)
+
+-- the table after a try, and what it finds; a record needs a free row
+unfoldable pub found : ℕ → ℕ → Try → List ℕ → List ℕ × Found
+found room rows (none offset head) t = (t, Nothing)
+found room rows (hit r) t =
+    cond (leb room rows) (t, NoRoom)
+    (withSpan t rows r, Row (r .held) (r .declared) (r .size) (isBox (r .word) (r .flags)))
+
+-- the counts after a try; `whole` stays while rows hold what they declare
+abbrev pub counted : ℕ → ℕ → Bool → Found → State
+counted rows tries whole Nothing = state rows tries whole Going
+counted rows tries whole NoRoom = state rows tries whole Full
+counted rows tries whole (Row held declared size boxed) = state (rows + 1) tries (whole && eqb held declared) Going
+
+-- a try that is due: it is made where the limit is not reached
+abbrev pub due : ℕ → ℕ → Try → List ℕ → ℕ → ℕ → Bool → Walk
+due limit room v t rows tries whole =
+    cond (leb limit tries) (t, state rows tries whole Spent)
+    (found room rows v t .0, counted rows (tries + 1) whole (found room rows v t .1))
+
+-- a walk that is cut off stays as it is
+abbrev pub ifGoing : Cut → Walk → Walk → Walk
+ifGoing Going next m = next
+ifGoing Full next m = m
+ifGoing Spent next m = m
+
+-- one try
+unfoldable pub step : ℕ → ℕ → Try → Walk → Walk
+step limit room v m = ifGoing (m .1 .cut) (due limit room v (m .0) (m .1 .rows) (m .1 .tries) (m .1 .whole)) m
+
+-- the tries made one after the other
+unfoldable pub run : ℕ → ℕ → List Try → Walk → Walk
+run limit room [] m = m
+run limit room (v ∷ vs) m = run limit room vs (step limit room v m)
+
+-- the bounds of a record's sizes
+abbrev pub RowBounds : Found → Type 0
+RowBounds Nothing = Unit {0}
+RowBounds NoRoom = Unit {0}
+RowBounds (Row held declared size boxed) = (0 < declared) × (declared ≤ 524280) × (0 < size) × (size ≤ 536)

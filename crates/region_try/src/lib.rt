@@ -1,0 +1,86 @@
+// One try: the header at a place is judged, and a record's row is written where one is free.
+ghost use mathlib.Core.Path.{_≡_};
+ghost use Prim.Native.Nat.{_*_, _≤_, _<_, _^_};
+ghost use lib.ListN.{length};
+ghost use Rattle.region_rows.specs.Rows.{width};
+ghost use Rattle.region_try.specs.Steps.{tryAt, found, RowBounds};
+use header_judge::LACKING;
+use header_judge::version::NO_WORD;
+use region_rows::Span;
+
+// What cut a walk off, if anything did.
+pub enum Cut {
+    Going,
+    Full,
+    Spent,
+}
+
+// How far a walk has come: the rows written, the tries made, and whether no row holds less than it declares.
+pub struct State {
+    pub rows: u32,
+    pub tries: u64,
+    pub whole: bool,
+    pub cut: Cut,
+}
+
+// What one try gives: no record, or one for which no row is free, or one whose row is written.
+pub enum Found {
+    Nothing,
+    NoRoom,
+    Row {
+        held: usize,
+        declared: usize,
+        size: usize,
+        boxed: bool,
+    },
+}
+
+// One try, where the header's word and flags are known: the header is judged first, then the room for its row.
+pub fn try_at(
+    bytes: &[u8],
+    word: u32,
+    flags: u32,
+    level: u32,
+    parent: u32,
+    offset: usize,
+    room: u32,
+    rows: u32,
+    spans: &mut [u32],
+) -> Found
+    requires { ⌜ (offset < 2 ^ 32) × (length (now bytes) < 2 ^ 32) × (room * width ≤ length (now spans)) ⌝ }
+    ensures { λ r. ⌜ (now (spans .exit), r) ≡ found room rows (tryAt level parent offset (now (bytes .entry)) word flags) (now (spans .entry)) ⌝ }
+    ensures { λ r. ⌜ RowBounds r ⌝ }
+{
+    if word == NO_WORD {
+        return Found::Nothing;
+    }
+    let size = header_judge::size_of(bytes, word, flags);
+    if size <= LACKING {
+        return Found::Nothing;
+    }
+    let declared = header_judge::declared_of(bytes, flags);
+    if declared == 0 {
+        return Found::Nothing;
+    }
+    if room <= rows {
+        return Found::NoRoom;
+    }
+    let held = region_rows::least(declared, bytes.len());
+    let span = Span {
+        level: level,
+        parent: parent,
+        offset: offset as u32,
+        held: held as u32,
+        declared: declared as u32,
+        size: size as u32,
+        word: word,
+        flags: flags,
+    };
+    region_rows::put(spans, rows as usize, span);
+    Found::Row {
+        held: held,
+        declared: declared,
+        size: size,
+        boxed: header_judge::is_box(word, flags),
+    }
+}

@@ -1,0 +1,56 @@
+-- What a walk keeps to, lent as an array of numbers, and what the region walk and the Box walk give.
+use Prim.Native.Nat.{ℕ, _+_, _*_, _≤_, _<_, _^_}
+use mathlib.Core.List.{List, [], _∷_}
+use mathlib.Core.Bool.{Bool}
+use lib.ListN.{length, getD}
+use Rattle.rules.specs.Columns.{rulesIn}
+use Rattle.region_rows.specs.Rows.{width}
+use Rattle.region_try.specs.Tries.{deepest, boxTries, regionTries}
+use Rattle.region_try.specs.Steps.{Walk, state, run}
+use Rattle.region_try.specs.declared.Cut.the-variants.{Going}
+
+-- ---- the bounds
+
+-- the limit of tries, the rows that there is room for, the rows of the rule table
+abbrev pub boundsOf : ℕ → ℕ → ℕ → List ℕ
+boundsOf limit room ruleRows = limit ∷ room ∷ ruleRows ∷ []
+
+abbrev pub limitIn : List ℕ → ℕ
+limitIn bs = getD bs 0 0
+
+abbrev pub roomIn : List ℕ → ℕ
+roomIn bs = getD bs 1 0
+
+abbrev pub ruleRowsIn : List ℕ → ℕ
+ruleRowsIn bs = getD bs 2 0
+
+-- the rule table, from its columns
+abbrev pub tableIn : List ℕ → List ℕ → List ℕ
+tableIn rules bs = rulesIn rules (ruleRowsIn bs)
+
+-- each fits its type, the rows fit in the lent table, and the rule table in its columns
+pub record Sound (bs spans : List ℕ) : Type 0 where
+  pub limit : limitIn bs < 2 ^ 64
+  pub room : roomIn bs < 2 ^ 32
+  pub rows : roomIn bs * width ≤ length spans
+  pub rules : ruleRowsIn bs ≤ 64
+
+-- what a walk asks: offsets fit their type, the levels are those that there are, and the bounds are sound
+pub record Walkable (bytes : List ℕ) (base levels : ℕ) (bs spans : List ℕ) : Type 0 where
+  pub offsets : base + length bytes < 2 ^ 32
+  pub deep : levels ≤ deepest
+  pub sound : Sound bs spans
+
+-- ---- the walks
+
+-- a walk that goes on
+abbrev pub going : List ℕ → ℕ → ℕ → Bool → Walk
+going t rows tries whole = (t, state rows tries whole Going)
+
+-- the tries of a region
+abbrev pub regionRun : List ℕ → List ℕ → ℕ → List ℕ → ℕ → ℕ → Walk → Walk
+regionRun rules bs levels bytes base parent m = run (limitIn bs) (roomIn bs) (regionTries (tableIn rules bs) levels bytes base parent (m .1 .rows)) m
+
+-- the tries inside a Box whose row is the last
+abbrev pub boxRun : List ℕ → List ℕ → ℕ → List ℕ → ℕ → ℕ → ℕ → Walk → Walk
+boxRun rules bs levels held base size row m = run (limitIn bs) (roomIn bs) (boxTries (tableIn rules bs) levels held base size row) m

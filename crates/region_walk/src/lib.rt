@@ -1,0 +1,167 @@
+// The walk: the records of a region, and those inside its Boxes, as rows of a lent table.
+// The region walk and the Box walk call each other, one level deeper each time; a region's records are a loop.
+ghost use mathlib.Core.Path.{_≡_};
+ghost use Prim.Native.Nat.{_+_, _<_};
+ghost use Rattle.region_try.specs.Steps.{state};
+ghost use Rattle.region_walk.specs.Steps.{boundsOf, roomIn, Walkable, going, regionRun, boxRun};
+use header_judge::version::NO_WORD;
+use header_judge::version::word_of;
+use region_try::Cut;
+use region_try::Found;
+use region_try::State;
+use rules::columns::NUMBERS;
+
+// How deep Boxes are opened.
+pub const DEEPEST: u32 = 4;
+
+// What stays the same in a whole walk is lent as two arrays, since a reference to an array is one word: `rules` has the columns of the
+// rule table, and `bounds` the limit of tries, the rows that there is room for and the rows of the rule table.
+const LIMIT: usize = 0;
+
+const ROOM: usize = 1;
+
+const RULE_ROWS: usize = 2;
+
+pub const BOUNDS: usize = 3;
+
+pub fn bounds_of(limit: u64, room: u32, rule_rows: usize) -> [u64; BOUNDS]
+    ensures { λ r. ⌜ r ≡ boundsOf limit room «rule_rows» ⌝ }
+{
+    [limit, room as u64, rule_rows as u64]
+}
+
+fn counts(rows: u32, tries: u64, whole: bool, cut: Cut) -> State
+    ensures { λ r. ⌜ r ≡ state rows tries whole cut ⌝ }
+{
+    State {
+        rows: rows,
+        tries: tries,
+        whole: whole,
+        cut: cut,
+    }
+}
+
+// The records of a region, one after the other, each with what stands inside it.
+pub fn region_walk(
+    bytes: &[u8],
+    rules: &[u32; NUMBERS],
+    bounds: &[u64; BOUNDS],
+    base: usize,
+    levels: u32,
+    parent: u32,
+    mut rows: u32,
+    mut tries: u64,
+    mut whole: bool,
+    spans: &mut [u32],
+) -> State
+    requires { ⌜ Walkable (now bytes) base levels (now bounds) (now spans) ⌝ }
+    ensures { λ r. ⌜ (now (spans .exit), r) ≡ regionRun (now (rules .entry)) (now (bounds .entry)) levels (now (bytes .entry)) base parent (going (now (spans .entry)) rows tries whole) ⌝ }
+{
+    let mut last = NO_WORD;
+    let mut known: u32 = 0;
+    let mut at: usize = 0;
+    while at < bytes.len() {
+        if bounds[LIMIT] <= tries {
+            return counts(rows, tries, whole, Cut::Spent);
+        }
+        let word = word_of(&bytes[at..]);
+        if word != last {
+            last = word;
+            known = rules::columns::flags(rules, bounds[RULE_ROWS] as usize, word);
+        }
+        tries = tries + 1;
+        let tried = region_try::try_at(
+            &bytes[at..],
+            word,
+            known,
+            DEEPEST - levels,
+            parent,
+            base + at,
+            bounds[ROOM] as u32,
+            rows,
+            spans,
+        );
+        match tried {
+            Found::Nothing => {
+                return counts(rows, tries, whole, Cut::Going);
+            }
+            Found::NoRoom => {
+                return counts(rows, tries, whole, Cut::Full);
+            }
+            Found::Row {
+                held,
+                declared,
+                size,
+                boxed,
+            } => {
+                let row = rows;
+                rows = rows + 1;
+                whole = whole & (held == declared);
+                if boxed {
+                    let end = at + held;
+                    let inner = box_walk(
+                        &bytes[at..end],
+                        rules,
+                        bounds,
+                        base + at,
+                        size,
+                        levels,
+                        row,
+                        tries,
+                        whole,
+                        spans,
+                    );
+                    let cut = inner.cut;
+                    match cut {
+                        Cut::Going => {}
+                        _ => {
+                            return counts(inner.rows, inner.tries, inner.whole, cut);
+                        }
+                    }
+                    rows = inner.rows;
+                    tries = inner.tries;
+                    whole = inner.whole;
+                }
+                at = at + declared;
+            }
+        }
+    }
+    counts(rows, tries, whole, Cut::Going)
+}
+
+// What stands inside a Box whose row is `row`. It is opened where a level is left and its header is held.
+fn box_walk(
+    held: &[u8],
+    rules: &[u32; NUMBERS],
+    bounds: &[u64; BOUNDS],
+    base: usize,
+    size: usize,
+    levels: u32,
+    row: u32,
+    tries: u64,
+    whole: bool,
+    spans: &mut [u32],
+) -> State
+    requires { ⌜ Walkable (now held) base levels (now bounds) (now spans) × (row < roomIn (now bounds)) ⌝ }
+    ensures { λ r. ⌜ (now (spans .exit), r) ≡ boxRun (now (rules .entry)) (now (bounds .entry)) levels (now (held .entry)) base size row (going (now (spans .entry)) (row + 1) tries whole) ⌝ }
+{
+    let rows = row + 1;
+    if levels == 0 {
+        return counts(rows, tries, whole, Cut::Going);
+    }
+    if held.len() <= size {
+        return counts(rows, tries, whole, Cut::Going);
+    }
+    region_walk(
+        &held[size..],
+        rules,
+        bounds,
+        base + size,
+        levels - 1,
+        row,
+        rows,
+        tries,
+        whole,
+        spans,
+    )
+}

@@ -1,0 +1,51 @@
+// A rule table laid out by columns (all masks, then all wanted numbers, then all flags), so that a look at several of its rows is one step.
+ghost use mathlib.Core.Path.{_≡_};
+ghost use Prim.Native.Nat.{_/_, _%_, _≤_};
+ghost use lib.ListN.{length};
+ghost use Rattle.rules.specs.Rules.{flagsOf};
+ghost use Rattle.rules.specs.Columns.{rulesIn};
+use crate::NUMBERS_IN_RULE;
+
+// The rows that a column has room for.
+const COLUMN: usize = 64;
+
+// The numbers of the three columns.
+pub const NUMBERS: usize = 192;
+
+// The columns of a table.
+pub fn columns_of(rules: &[u32]) -> [u32; NUMBERS]
+    requires { ⌜ (length (now rules) % 3 ≡ 0) × (length (now rules) ≤ 192) ⌝ }
+    ensures { λ r. ⌜ rulesIn r (length (now (rules .entry)) / 3) ≡ now (rules .entry) ⌝ }
+{
+    let mut columns = [0u32; NUMBERS];
+    let mut row: usize = 0;
+    let mut at: usize = 0;
+    while at + 2 < rules.len() {
+        columns[row] = rules[at];
+        columns[row + COLUMN] = rules[at + 1];
+        columns[row + 2 * COLUMN] = rules[at + 2];
+        row = row + 1;
+        at = at + NUMBERS_IN_RULE;
+    }
+    columns
+}
+
+// The flags of a version word under the first rows, without a branch on them.
+pub fn flags(columns: &[u32; NUMBERS], rows: usize, word: u32) -> u32
+    requires { ⌜ rows ≤ 64 ⌝ }
+    ensures { λ r. ⌜ r ≡ flagsOf (rulesIn (now (columns .entry)) rows) word ⌝ }
+{
+    let mut all: u32 = 0;
+    let mut row: usize = 0;
+    while row < rows {
+        all = all
+            | crate::flags_given(
+                word,
+                columns[row],
+                columns[row + COLUMN],
+                columns[row + 2 * COLUMN],
+            );
+        row = row + 1;
+    }
+    all
+}

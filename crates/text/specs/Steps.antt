@@ -1,0 +1,12 @@
+-- What the inner functions give: a text put into a buffer.
+use Prim.Native.Nat.{ℕ, _+_, _≤_}
+use mathlib.Core.Path.{_≡_}
+use mathlib.Core.List.{List}
+use lib.ListN.{length}
+use lib.Seq.{sets}
+
+-- the buffer has the text from `at` on and is else as it was; the text ends at `next`, and has at most so many bytes
+pub record Puts (before : List ℕ) (at : ℕ) (text : List ℕ) (most : ℕ) (after : List ℕ) (next : ℕ) : Type 0 where
+  pub bytes : after ≡ sets before at text
+  pub ends : next ≡ at + length text
+  pub few : next ≤ at + most

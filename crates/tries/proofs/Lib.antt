@@ -1,6 +1,0 @@
-pub mod Orders
-pub mod Heads
-pub mod Finds
-pub mod Tries
-pub mod Runs
-pub mod Bound

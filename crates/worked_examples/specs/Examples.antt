@@ -1,0 +1,146 @@
+-- The worked examples P1 to P12 of document 01, 'Checked examples', as one table of rows.
+use Prim.Native.Nat.{ℕ, _*_, _/_, _%_}
+use mathlib.Core.Bool.{Bool, true, false}
+use mathlib.Core.List.{List, [], _∷_, _++_}
+use lib.ListN.{take, replicate}
+use Rattle.header.specs.Access.{dieOf}
+use Rattle.header.specs.Header.{numberOf, decodedOf}
+use Rattle.header.specs.declared.HeaderType.{HeaderType}
+use Rattle.header.specs.declared.HeaderType.the-variants.{Type0, Type1, Type2, Type3, Type4, Type5, Type6, Type0LegacyServer, Type0LegacyGpu}
+use Rattle.header.specs.declared.access.Die.{Die}
+use Rattle.region_rows.specs.declared.Span.{Span}
+use Rattle.region_rows.specs.Rows.{width, top, flat}
+use Rattle.region.specs.Listing.{listed, typeOf, numberOf as listingNumber}
+
+-- ---- the kinds of examples
+
+pub data Example : Type 0 where
+  -- a region listed with no rules under a limit, into so many rows: answer, type, rows, tries, `whole`, and the rows
+  lists : (bytes : List ℕ) (limit room answer type rows tries : ℕ) (whole : Bool) (spans : List Span) → Example
+  -- the die of a legacy server header of a revision, decoded under a rule that makes it one
+  die : (revision id : ℕ) → Example
+  -- a type 6 header with a halfword at 26: status count, complete, header size
+  half : (word count : ℕ) (complete : Bool) (size : ℕ) → Example
+
+-- ---- the inputs
+
+-- P4 to P7: a Punit record header, of which each byte string is a part or a variation
+abbrev punit : ℕ → ℕ → List ℕ
+punit type size = 0x01 ∷ type ∷ 0x12 ∷ 0x03 ∷ size ∷ 0 ∷ 0 ∷ 0 ∷ []
+
+-- P10: six Boxes, each the payload of the last
+abbrev box : ℕ → List ℕ
+box words = 0x01 ∷ 0x31 ∷ 0x12 ∷ 0x3d ∷ words ∷ 0 ∷ 0 ∷ 0 ∷ []
+
+abbrev boxes : List ℕ
+boxes = box 12 ++ (box 10 ++ (box 8 ++ (box 6 ++ (box 4 ++ box 2))))
+
+-- P11 and P12: the dump input
+abbrev dumped : List ℕ
+dumped =
+    0x01 ∷ 0x31 ∷ 0x12 ∷ 0x3d ∷ 5 ∷ 0 ∷ 0 ∷ 0
+    ∷ 0x01 ∷ 0x31 ∷ 0x12 ∷ 0x03 ∷ 2 ∷ 0 ∷ 0 ∷ 0
+    ∷ 0 ∷ 0 ∷ 0 ∷ 0
+    ∷ 0x01 ∷ 0x31 ∷ 0x12 ∷ 0x3e ∷ 4 ∷ 0 ∷ 0 ∷ 0
+    ∷ []
+
+-- a row without flags: level, parent row, offset, held, declared, version word; every header here has 8 bytes
+abbrev row : ℕ → ℕ → ℕ → ℕ → ℕ → ℕ → Span
+row level parent offset held declared word =
+    record { level = level; parent = parent; offset = offset; held = held; declared = declared; size = 8; word = word; flags = 0 }
+
+-- its rows
+abbrev rowBox : Span
+rowBox = row 0 top 0 20 20 0x3d123101
+
+abbrev rowPunit : Span
+rowPunit = row 1 0 8 8 8 0x03123101
+
+abbrev rowMca : Span
+rowMca = row 0 top 20 8 16 0x3e123101
+
+-- a row of a Box of P10 at a level
+abbrev rowOfBox : ℕ → ℕ → ℕ → ℕ → Span
+rowOfBox level parent offset size = row level parent offset size size 0x3d123101
+
+-- ---- the table
+
+abbrev pub examples : List Example
+examples =
+    -- P1 to P3
+    lists [] 9 9 5 0 0 0 false []
+    ∷ lists (1 ∷ 2 ∷ 3 ∷ []) 9 9 5 0 0 1 false []
+    ∷ lists (0xef ∷ 0xbe ∷ 0xad ∷ 0xde ∷ []) 9 9 5 0 0 1 false []
+    -- P4 to P6
+    ∷ lists (take 5 (punit 0x31 2)) 9 9 3 0 0 1 false []
+    ∷ lists (punit 0x37 2) 9 9 4 7 0 1 false []
+    ∷ lists (punit 0x31 0) 9 9 5 0 0 1 false []
+    -- P7
+    ∷ lists (punit 0x31 2 ++ punit 0x37 2) 9 9 0 0 1 2 true (row 0 top 0 8 8 0x03123101 ∷ [])
+    -- P8
+    ∷ die 0x83 12
+    ∷ die 0x03 12
+    ∷ die 0x81 10
+    ∷ die 0x02 8
+    -- P9
+    ∷ half 0xffff 127 true 536
+    ∷ half 0xff80 0 true 28
+    -- P10
+    ∷ lists boxes 9 9 0 0 5 5 true
+    (rowOfBox 0 top 0 48 ∷ rowOfBox 1 0 8 40 ∷ rowOfBox 2 1 16 32 ∷ rowOfBox 3 2 24 24 ∷ rowOfBox 4 3 32 16 ∷ [])
+    -- P11
+    ∷ lists dumped 2 9 7 0 2 2 false (rowBox ∷ rowPunit ∷ [])
+    ∷ lists dumped 9 1 6 0 1 2 false (rowBox ∷ [])
+    -- P12
+    ∷ lists dumped 81920 512 0 0 3 4 false (rowBox ∷ rowPunit ∷ rowMca ∷ [])
+    ∷ []
+
+-- ---- what the definitions say of an example
+
+abbrev bit : Bool → ℕ
+bit true = 1
+bit false = 0
+
+abbrev dieNumber : Die → List ℕ
+dieNumber (Die.Id d) = d ∷ []
+dieNumber Die.Absent = []
+
+-- count and complete of a type 6 header
+abbrev halfIn : HeaderType → List ℕ
+halfIn (Type6 stamp d k n c) = n ∷ bit c ∷ []
+halfIn Type0 = []
+halfIn Type1 = []
+halfIn (Type2 stamp) = []
+halfIn (Type3 stamp status) = []
+halfIn (Type4 stamp w m) = []
+halfIn (Type5 stamp status e) = []
+halfIn (Type0LegacyServer stamp d k status) = []
+halfIn (Type0LegacyGpu stamp status) = []
+
+-- a rule that makes every header a legacy server's
+abbrev allServers : List ℕ
+allServers = 0 ∷ 0 ∷ 1 ∷ []
+
+-- a header of 32 bytes with a revision, and one of type 6 with a halfword
+abbrev revised : ℕ → List ℕ
+revised revision = revision ∷ replicate 31 0
+
+abbrev counted : ℕ → List ℕ
+counted word = (0x01 ∷ 0x36 ∷ 0x12 ∷ 0x03 ∷ replicate 22 0) ++ (word % 256 ∷ word / 256 ∷ replicate 508 0)
+
+unfoldable pub computed : Example → List ℕ
+computed (lists bytes limit room answer type rows tries whole spans) =
+    let end = listed [] bytes limit (replicate (room * width) 0) in
+    listingNumber (end .1 .answer) ∷ typeOf (end .1 .answer) ∷ end .1 .rows ∷ end .1 .tries ∷ bit (end .1 .whole) ∷ take (end .1 .rows * width) (end .0)
+computed (die revision id) =
+    let end = decodedOf allServers (revised revision) in
+    numberOf (end .answer) ∷ dieNumber (dieOf (end .header .«header_type»))
+computed (half word count complete size) =
+    let end = decodedOf [] (counted word) in
+    numberOf (end .answer) ∷ end .«header_size» ∷ halfIn (end .header .«header_type»)
+
+-- what document 01 says of it
+abbrev pub stated : Example → List ℕ
+stated (lists bytes limit room answer type rows tries whole spans) = answer ∷ type ∷ rows ∷ tries ∷ bit whole ∷ flat spans
+stated (die revision id) = 0 ∷ id ∷ []
+stated (half word count complete size) = 0 ∷ size ∷ count ∷ bit complete ∷ []
