@@ -3,19 +3,23 @@ use Prim.Native.Nat.{ℕ, _-_}
 use mathlib.Core.Bool.{cond}
 use mathlib.Core.List.{List, [], _∷_, _++_}
 use lib.Dec.{eqb, leb}
-use lib.ListN.{length, drop, replicate}
+use lib.ListN.{length, getD, drop, replicate}
 use Rattle.names.specs.Ascii.{ascii}
 use Rattle.names.specs.declared.Name.{Name}
 
--- the record types that have a name, each with it
-unfoldable pub named : List (ℕ × List ℕ)
+-- record types, each with its name
+abbrev pub Table : Type 0
+Table = List (ℕ × List ℕ)
+
+-- the record types that have a name, in ascending order
+unfoldable pub named : Table
 named =
-    (0x1, ascii "PMC")
-    ∷ (0x2, ascii "PMC_FW_Trace")
-    ∷ (0x3, ascii "Punit")
-    ∷ (0x4, ascii "PCORE")
-    ∷ (0x6, ascii "ECORE")
-    ∷ (0x8, ascii "UNCORE")
+    (0x01, ascii "PMC")
+    ∷ (0x02, ascii "PMC_FW_Trace")
+    ∷ (0x03, ascii "Punit")
+    ∷ (0x04, ascii "PCORE")
+    ∷ (0x06, ascii "ECORE")
+    ∷ (0x08, ascii "UNCORE")
     ∷ (0x11, ascii "PMC_TRACE")
     ∷ (0x16, ascii "TCSS")
     ∷ (0x17, ascii "PMC_RST")
@@ -25,12 +29,19 @@ named =
     ∷ (0x3e, ascii "MCA")
     ∷ []
 
--- the name of every other
+-- the name of every other type
 abbrev pub unknown : List ℕ
 unknown = ascii "UNKNOWN"
 
--- the name of a record type among some
-unfoldable pub lookup : ℕ → List (ℕ × List ℕ) → List ℕ
+-- the type and the name at a place of a table; past its end type 0, which has no name
+abbrev pub typeAt : Table → ℕ → ℕ
+typeAt table place = getD table place (0, unknown) .0
+
+abbrev pub textAt : Table → ℕ → List ℕ
+textAt table place = getD table place (0, unknown) .1
+
+-- the name of a record type by a table
+unfoldable pub lookup : ℕ → Table → List ℕ
 lookup t [] = unknown
 lookup t ((code, name) ∷ rest) = cond (eqb t code) name (lookup t rest)
 
@@ -38,12 +49,13 @@ lookup t ((code, name) ∷ rest) = cond (eqb t code) name (lookup t rest)
 unfoldable pub textOf : ℕ → List ℕ
 textOf t = lookup t named
 
--- a name with zeros after it up to 16 bytes, and its length
-abbrev pub padded : List ℕ → Name
-padded name = record { bytes = name ++ replicate (16 - length name) 0; len = length name }
+-- a name with zeros after it up to 16 bytes
+unfoldable pub padded : List ℕ → List ℕ
+padded name = name ++ replicate (16 - length name) 0
 
+-- the name of a record type, padded, and its length
 abbrev pub nameOf : ℕ → Name
-nameOf t = padded (textOf t)
+nameOf t = record { bytes = padded (textOf t); len = length (textOf t) }
 
 -- a name at the start of the output, where it fits, and its length
 unfoldable pub nameOut : List ℕ → List ℕ → List ℕ × ℕ
