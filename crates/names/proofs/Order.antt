@@ -19,17 +19,18 @@ ascending : ℕ → Table → Bool
 ascending least [] = true
 ascending least ((code, name) ∷ rest) = ltb least code && ascending code rest
 
-rest-ascends : (least code : ℕ) (rest : Table) → (ltb least code && ascending code rest) ≡ true → ascending code rest ≡ true
-rest-ascends least code rest rising = both (ltb least code) (ascending code rest) rising .1
+-- the test of an entry and of the entries after it
+parts : (least code : ℕ) (rest : Table) → (ltb least code && ascending code rest) ≡ true → (least < code) × (ascending code rest ≡ true)
+parts least code rest rising = let (first, others) = both (ltb least code) (ascending code rest) rising in (ltb-true least code first, others)
 
 -- every type is above `least`
 above : (least : ℕ) (table : Table) → ascending least table ≡ true → (j : ℕ) → j < length table → least < typeAt table j
 unfolding ascending
 above least [] rising j inside = absurd (not-suc-le-zero inside)
-above least ((code, name) ∷ rest) rising zero inside = ltb-true least code (both (ltb least code) (ascending code rest) rising .0)
+above least ((code, name) ∷ rest) rising zero inside = parts least code rest rising .0
 above least ((code, name) ∷ rest) rising (suc j) inside =
-    let first = ltb-true least code (both (ltb least code) (ascending code rest) rising .0) in
-    let later = above code rest (rest-ascends least code rest rising) j (le-of-suc-le-suc inside) in
+    let (first, others) = parts least code rest rising in
+    let later = above code rest others j (le-of-suc-le-suc inside) in
     omega arith
 
 -- the rule at each pair of entries
@@ -37,9 +38,9 @@ pairs : (least : ℕ) (table : Table) → ascending least table ≡ true → (i 
 unfolding ascending
 pairs least [] rising i j order inside = absurd (not-suc-le-zero inside)
 pairs least ((code, name) ∷ rest) rising i zero order inside = absurd (not-suc-le-zero order)
-pairs least ((code, name) ∷ rest) rising zero (suc j) order inside = above code rest (rest-ascends least code rest rising) j (le-of-suc-le-suc inside)
+pairs least ((code, name) ∷ rest) rising zero (suc j) order inside = above code rest (parts least code rest rising .1) j (le-of-suc-le-suc inside)
 pairs least ((code, name) ∷ rest) rising (suc i) (suc j) order inside =
-    pairs code rest (rest-ascends least code rest rising) i j (le-of-suc-le-suc order) (le-of-suc-le-suc inside)
+    pairs code rest (parts least code rest rising .1) i j (le-of-suc-le-suc order) (le-of-suc-le-suc inside)
 
 pub types-ascend : (i j : ℕ) → i < j → j < length named → typeAt named i < typeAt named j
 unfolding named ascending
@@ -59,7 +60,7 @@ unfolding ascending lookup
 found least [] rising i inside = absurd (not-suc-le-zero inside)
 found least ((code, name) ∷ rest) rising zero inside = rw (eq-eqb code code refl) refl
 found least ((code, name) ∷ rest) rising (suc i) inside =
-    let others = rest-ascends least code rest rising in
+    let others = parts least code rest rising .1 in
     let later = above code rest others i (le-of-suc-le-suc inside) in
     rw (ne-eqb (typeAt rest i) code (λ same. omega arith)) (found code rest others i (le-of-suc-le-suc inside))
 
