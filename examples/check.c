@@ -1,6 +1,6 @@
 /*
- * Tries the C interface: round trips of headers, the refusals, what is told with each answer, CPERs, names and Intel's rules.
- * Prints nothing and ends with status 0 when all is as include/crashlog.h says.
+ * Tries the C interface: round trips of headers, the refusals, what is told with each answer, the endings, why a region stops,
+ * CPERs, names and Intel's rules. Prints nothing and ends with status 0 when all is as include/crashlog.h says.
  */
 #include <stdio.h>
 #include <stdlib.h>
@@ -72,17 +72,24 @@ static uint32_t normalise(const uint8_t *cper, uint64_t length, uint8_t *out, ui
 }
 
 /* All that a listing told. */
-static int told_listing(uint64_t rows, uint64_t tries, uint64_t bad_type, uint64_t whole)
+static int told_listing(uint64_t rows, uint64_t tries, uint64_t bad_type, uint64_t whole, uint64_t stop)
 {
     return listed.rows == rows && listed.tries == tries && listed.bad_type == bad_type && listed.whole == whole &&
-           listed.stop == 0;
+           listed.stop == stop;
 }
 
-/* All that a decode told. */
+/* All that a decode told, of a header that is no ending. */
 static int told_header(uint64_t declared, uint64_t header_size, uint64_t flags, uint64_t bad_type)
 {
     return judged.declared == declared && judged.header_size == header_size && judged.flags == flags &&
            judged.bad_type == bad_type && judged.ending == 0;
+}
+
+/* An ending, and nothing else. */
+static int told_ending(uint64_t ending)
+{
+    return judged.declared == 0 && judged.header_size == 0 && judged.flags == 0 && judged.bad_type == 0 &&
+           judged.ending == ending;
 }
 
 static int told_part(uint64_t offset, uint64_t length)
@@ -171,8 +178,6 @@ static void decode_refusals(void)
 {
     static const uint8_t cut[] = {0x01, 0x31, 0x12, 0x03, 0x02};
     static const uint8_t bad[] = {0x01, 0x37, 0x12, 0x03, 0x02, 0, 0, 0};
-    static const uint8_t marked[] = {0xef, 0xbe, 0xad, 0xde, 0x02, 0, 0, 0};
-    static const uint8_t zero[] = {0, 0, 0, 0, 0x02, 0, 0, 0};
     crashlog_header header, before;
 
     memset(&header, 0x5a, sizeof header);
@@ -180,13 +185,36 @@ static void decode_refusals(void)
     EXPECT(decode(cut, sizeof cut, NULL, 0, &header) == CRASHLOG_BAD_HEADER && told_header(0, 0, 0, 0));
     EXPECT(decode(bad, sizeof bad, NULL, 0, &header) == CRASHLOG_BAD_TYPE && told_header(0, 0, 0, 7));
     EXPECT(decode(bad, 5, NULL, 0, &header) == CRASHLOG_BAD_HEADER && told_header(0, 0, 0, 0));
-    EXPECT(decode(marked, sizeof marked, NULL, 0, &header) == CRASHLOG_ENDED && told_header(0, 0, 0, 0));
-    EXPECT(decode(zero, sizeof zero, NULL, 0, &header) == CRASHLOG_ENDED && told_header(0, 0, 0, 0));
-    EXPECT(decode(bad, 3, NULL, 0, &header) == CRASHLOG_ENDED && told_header(0, 0, 0, 0));
-    EXPECT(decode(NULL, 0, NULL, 0, &header) == CRASHLOG_ENDED && told_header(0, 0, 0, 0));
     EXPECT(decode(NULL, 0, bad_rules, 3, &header) == CRASHLOG_BAD_RULES && told_header(0, 0, 0, 0));
     EXPECT(decode(bad, sizeof bad, bad_rules, 2, &header) == CRASHLOG_BAD_RULES && told_header(0, 0, 0, 0));
     EXPECT(memcmp(&header, &before, sizeof header) == 0);
+}
+
+/* The three endings, under good and bad rules; and words that are nearly an ending. */
+static void endings(void)
+{
+    static const uint8_t zero[] = {0, 0, 0, 0, 0x02, 0, 0, 0};
+    static const uint8_t marked[] = {0xef, 0xbe, 0xad, 0xde, 0x02, 0, 0, 0};
+    static const uint8_t unmarked[] = {0xef, 0xb0, 0xad, 0xde, 0x02, 0, 0, 0};
+    static const uint8_t nonzero[] = {0, 0, 0, 0x80, 0x02, 0, 0, 0};
+    crashlog_header header, before;
+
+    memset(&header, 0x5a, sizeof header);
+    before = header;
+    EXPECT(decode(zero, sizeof zero, NULL, 0, &header) == CRASHLOG_ENDED && told_ending(CRASHLOG_STOP_ZERO_WORD));
+    EXPECT(decode(zero, 4, server_rules, 3, &header) == CRASHLOG_ENDED && told_ending(CRASHLOG_STOP_ZERO_WORD));
+    EXPECT(decode(marked, sizeof marked, NULL, 0, &header) == CRASHLOG_ENDED && told_ending(CRASHLOG_STOP_DEADBEEF_WORD));
+    EXPECT(decode(marked, 4, server_rules, 3, &header) == CRASHLOG_ENDED && told_ending(CRASHLOG_STOP_DEADBEEF_WORD));
+    for (uint64_t length = 0; length < 4; length++) {
+        EXPECT(decode(zero, length, NULL, 0, &header) == CRASHLOG_ENDED && told_ending(CRASHLOG_STOP_FEW_BYTES));
+        EXPECT(decode(marked, length, NULL, 0, &header) == CRASHLOG_ENDED && told_ending(CRASHLOG_STOP_FEW_BYTES));
+    }
+    EXPECT(decode(NULL, 0, NULL, 0, &header) == CRASHLOG_ENDED && told_ending(CRASHLOG_STOP_FEW_BYTES));
+    EXPECT(decode(zero, sizeof zero, bad_rules, 3, &header) == CRASHLOG_BAD_RULES && told_header(0, 0, 0, 0));
+    EXPECT(decode(marked, sizeof marked, bad_rules, 3, &header) == CRASHLOG_BAD_RULES && told_header(0, 0, 0, 0));
+    EXPECT(memcmp(&header, &before, sizeof header) == 0);
+    EXPECT(decode(unmarked, sizeof unmarked, NULL, 0, &header) == CRASHLOG_DONE && told_header(8, 8, 0, 0));
+    EXPECT(decode(nonzero, sizeof nonzero, NULL, 0, &header) == CRASHLOG_DONE && told_header(8, 8, 0, 0));
 }
 
 /* The answer to one header, and that a refusal leaves the output as it was. */
@@ -264,25 +292,100 @@ static void listings(void)
     uint32_t spans[CRASHLOG_SPAN_WORDS + 1];
 
     memset(spans, 0xaa, sizeof spans);
-    EXPECT(list(NULL, 0, NULL, 0, 0, NULL, 0) == CRASHLOG_EMPTY_REGION && told_listing(0, 0, 0, 0));
-    EXPECT(list(region, sizeof region, bad_rules, 3, 9, spans, one) == CRASHLOG_TOO_LONG && told_listing(0, 0, 0, 0));
-    EXPECT(list(region, sizeof region - 1, bad_rules, 3, 9, spans, one) == CRASHLOG_BAD_RULES && told_listing(0, 0, 0, 0));
-    EXPECT(list(region, 8, NULL, 0, 0, spans, one) == CRASHLOG_TRIES_SPENT && told_listing(0, 0, 0, 0));
-    EXPECT(list(region, 8, NULL, 0, 9, spans, one) == CRASHLOG_EMPTY_REGION && told_listing(0, 1, 0, 0));
+    EXPECT(list(NULL, 0, NULL, 0, 0, NULL, 0) == CRASHLOG_EMPTY_REGION);
+    EXPECT(told_listing(0, 0, 0, 0, CRASHLOG_STOP_END_OF_INPUT));
+    EXPECT(list(region, sizeof region, bad_rules, 3, 9, spans, one) == CRASHLOG_TOO_LONG);
+    EXPECT(told_listing(0, 0, 0, 0, CRASHLOG_STOP_UNTOLD));
+    EXPECT(list(region, sizeof region - 1, bad_rules, 3, 9, spans, one) == CRASHLOG_BAD_RULES);
+    EXPECT(told_listing(0, 0, 0, 0, CRASHLOG_STOP_UNTOLD));
+    EXPECT(list(region, 8, NULL, 0, 0, spans, one) == CRASHLOG_TRIES_SPENT);
+    EXPECT(told_listing(0, 0, 0, 0, CRASHLOG_STOP_UNTOLD));
+    EXPECT(list(region, 8, NULL, 0, 9, spans, one) == CRASHLOG_EMPTY_REGION);
+    EXPECT(told_listing(0, 1, 0, 0, CRASHLOG_STOP_ZERO_WORD));
     memcpy(region, "\x01\x37\x12\x03\x02", 5);
-    EXPECT(list(region, 8, NULL, 0, 9, spans, one) == CRASHLOG_BAD_TYPE && told_listing(0, 1, 7, 0));
-    EXPECT(list(region, 5, NULL, 0, 9, spans, one) == CRASHLOG_BAD_HEADER && told_listing(0, 1, 0, 0));
+    EXPECT(list(region, 8, NULL, 0, 9, spans, one) == CRASHLOG_BAD_TYPE);
+    EXPECT(told_listing(0, 1, 7, 0, CRASHLOG_STOP_BAD_HEADER));
+    EXPECT(list(region, 5, NULL, 0, 9, spans, one) == CRASHLOG_BAD_HEADER);
+    EXPECT(told_listing(0, 1, 0, 0, CRASHLOG_STOP_BAD_HEADER));
     region[1] = 0x31;
-    EXPECT(list(region, 8, NULL, 0, 9, spans, one - 1) == CRASHLOG_SPANS_FULL && told_listing(0, 1, 0, 0));
+    EXPECT(list(region, 8, NULL, 0, 9, spans, one - 1) == CRASHLOG_SPANS_FULL);
+    EXPECT(told_listing(0, 1, 0, 0, CRASHLOG_STOP_UNTOLD));
     EXPECT(all((const uint8_t *)spans, sizeof spans, 0xaa));
-    EXPECT(list(region, 16, NULL, 0, 1, spans, one) == CRASHLOG_TRIES_SPENT && told_listing(1, 1, 0, 0));
+    EXPECT(list(region, 16, NULL, 0, 1, spans, one) == CRASHLOG_TRIES_SPENT);
+    EXPECT(told_listing(1, 1, 0, 0, CRASHLOG_STOP_UNTOLD));
     memset(spans, 0xaa, sizeof spans);
-    EXPECT(list(region, 8, NULL, 0, 9, spans, one) == CRASHLOG_DONE && told_listing(1, 1, 0, 1));
+    EXPECT(list(region, 8, NULL, 0, 9, spans, one) == CRASHLOG_DONE);
+    EXPECT(told_listing(1, 1, 0, 1, CRASHLOG_STOP_END_OF_INPUT));
     EXPECT(spans[CRASHLOG_SPAN_LEVEL] == 0 && spans[CRASHLOG_SPAN_PARENT] == CRASHLOG_NO_PARENT);
     EXPECT(spans[CRASHLOG_SPAN_OFFSET] == 0 && spans[CRASHLOG_SPAN_HELD] == 8);
     EXPECT(spans[CRASHLOG_SPAN_DECLARED] == 8 && spans[CRASHLOG_SPAN_HEADER_SIZE] == 8);
     EXPECT(spans[CRASHLOG_SPAN_VERSION] == 0x03123101 && spans[CRASHLOG_SPAN_FLAGS] == 0);
     EXPECT(spans[CRASHLOG_SPAN_WORDS] == 0xaaaaaaaa);
+}
+
+/* What may stand where a region stops, why it then stops, and the answer where no record stands before it. */
+static const struct tail {
+    uint8_t bytes[8];
+    uint64_t length, stop;
+    uint32_t answer;
+} tails[] = {
+    {{0}, 0, CRASHLOG_STOP_END_OF_INPUT, CRASHLOG_EMPTY_REGION},
+    {{0}, 4, CRASHLOG_STOP_ZERO_WORD, CRASHLOG_EMPTY_REGION},
+    {{0xef, 0xbe, 0xad, 0xde}, 4, CRASHLOG_STOP_DEADBEEF_WORD, CRASHLOG_EMPTY_REGION},
+    {{0}, 3, CRASHLOG_STOP_FEW_BYTES, CRASHLOG_EMPTY_REGION},
+    {{0xef, 0xbe, 0xad}, 3, CRASHLOG_STOP_FEW_BYTES, CRASHLOG_EMPTY_REGION},
+    {{0x01, 0x31, 0x12, 0x03, 0x02}, 5, CRASHLOG_STOP_BAD_HEADER, CRASHLOG_BAD_HEADER},
+    {{0x01, 0x37, 0x12, 0x03, 0x02}, 8, CRASHLOG_STOP_BAD_HEADER, CRASHLOG_BAD_TYPE},
+    {{0x01, 0x31, 0x12, 0x03}, 8, CRASHLOG_STOP_SIZE_ZERO, CRASHLOG_EMPTY_REGION},
+};
+
+/* A tail alone, and after a record: whole, without room, and with one try too few. */
+static void stops_at(const struct tail *tail)
+{
+    uint8_t region[16] = {0x01, 0x31, 0x12, 0x03, 0x02};
+    uint32_t spans[CRASHLOG_SPAN_WORDS];
+    const uint64_t one = CRASHLOG_SPAN_WORDS, length = 8 + tail->length;
+    const uint64_t tries = tail->length > 0; /* of the tail */
+
+    EXPECT(list(tail->bytes, tail->length, NULL, 0, 9, spans, one) == tail->answer);
+    EXPECT(told_listing(0, tries, tail->answer == CRASHLOG_BAD_TYPE ? 7 : 0, 0, tail->stop));
+    memcpy(region + 8, tail->bytes, tail->length);
+    EXPECT(list(region, length, NULL, 0, 1 + tries, spans, one) == CRASHLOG_DONE);
+    EXPECT(told_listing(1, 1 + tries, 0, 1, tail->stop));
+    EXPECT(list(region, length, NULL, 0, 9, spans, one - 1) == CRASHLOG_SPANS_FULL);
+    EXPECT(told_listing(0, 1, 0, 0, CRASHLOG_STOP_UNTOLD));
+    EXPECT(list(region, length, NULL, 0, tries, spans, one) == CRASHLOG_TRIES_SPENT);
+    EXPECT(told_listing(tries, tries, 0, 0, CRASHLOG_STOP_UNTOLD));
+}
+
+/* A Box that holds a record and a tail, with a tail after it: why the Box stops is not told. */
+static void stops_apart(const struct tail *inner, const struct tail *outer)
+{
+    static const uint32_t rules[] = {0, 0, CRASHLOG_SIZES_IN_BYTES};
+    uint8_t region[32] = {0x01, 0x31, 0x12, 0x3d, [8] = 0x01, 0x31, 0x12, 0x03, 0x08};
+    uint32_t spans[2 * CRASHLOG_SPAN_WORDS];
+    const uint64_t box = 16 + inner->length, tries = 2 + (inner->length > 0) + (outer->length > 0);
+
+    region[4] = (uint8_t)box;
+    memcpy(region + 16, inner->bytes, inner->length);
+    memcpy(region + box, outer->bytes, outer->length);
+    EXPECT(list(region, box + outer->length, rules, 3, 9, spans, 2 * CRASHLOG_SPAN_WORDS) == CRASHLOG_DONE);
+    EXPECT(told_listing(2, tries, 0, 1, outer->stop));
+}
+
+static void stops(void)
+{
+    const size_t all_tails = sizeof tails / sizeof tails[0];
+    static const uint8_t cut[] = {0x01, 0x31, 0x12, 0x03, 0x03, 0, 0, 0}; /* declares 12 bytes */
+    uint32_t spans[CRASHLOG_SPAN_WORDS];
+
+    for (size_t i = 0; i < all_tails; i++) {
+        stops_at(&tails[i]);
+        for (size_t j = 0; j < all_tails; j++)
+            stops_apart(&tails[i], &tails[j]);
+    }
+    EXPECT(list(cut, sizeof cut, NULL, 0, 9, spans, CRASHLOG_SPAN_WORDS) == CRASHLOG_DONE);
+    EXPECT(told_listing(1, 1, 0, 0, CRASHLOG_STOP_END_OF_INPUT));
 }
 
 /* Two sections, of which the second lies past the end of the input. */
@@ -403,9 +506,11 @@ int main(void)
         round_trips(type, CRASHLOG_LAYOUT_LEGACY_GPU, gpu_rules, 3);
     }
     decode_refusals();
+    endings();
     encode_refusals();
     worked_headers();
     listings();
+    stops();
     cpers();
     names();
     intel_rules();

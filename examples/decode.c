@@ -47,6 +47,16 @@ static void print_fields(const crashlog_header *header)
     }
 }
 
+static const char *words_of(uint64_t ending)
+{
+    switch (ending) {
+    case CRASHLOG_STOP_ZERO_WORD: return "zero word";
+    case CRASHLOG_STOP_DEADBEEF_WORD: return "0xdeadbeef word";
+    case CRASHLOG_STOP_FEW_BYTES: return "fewer than 4 bytes";
+    default: return "unknown";
+    }
+}
+
 int main(int argc, char **argv)
 {
     uint8_t bytes[536]; /* no header is longer */
@@ -73,7 +83,7 @@ int main(int argc, char **argv)
         print_fields(&header);
         break;
     case CRASHLOG_ENDED:
-        printf("ended\n");
+        printf("ended: %s\n", words_of(told.ending));
         break;
     case CRASHLOG_BAD_RULES:
         printf("bad rules\n");

@@ -1,5 +1,5 @@
 /*
- * Lists the records of a region that is in a file, and prints what the dump program prints.
+ * Lists the records of a region that is in a file, and prints what the dump program prints, then why the region stopped.
  *
  *     tools/x86 cc -I include -o list examples/list.c target/staticlib/libcrashlog.a
  *     tools/x86 run ./list FILE [ROWS [TRIES]]
@@ -27,6 +27,20 @@ static void print_row(const uint32_t *span)
            (int)length, (const char *)name);
 }
 
+static const char *words_of(uint64_t stop)
+{
+    switch (stop) {
+    case CRASHLOG_STOP_UNTOLD: return "untold";
+    case CRASHLOG_STOP_END_OF_INPUT: return "end of input";
+    case CRASHLOG_STOP_ZERO_WORD: return "zero word";
+    case CRASHLOG_STOP_DEADBEEF_WORD: return "0xdeadbeef word";
+    case CRASHLOG_STOP_FEW_BYTES: return "fewer than 4 bytes";
+    case CRASHLOG_STOP_BAD_HEADER: return "bad header";
+    case CRASHLOG_STOP_SIZE_ZERO: return "size zero";
+    default: return "unknown";
+    }
+}
+
 int main(int argc, char **argv)
 {
     FILE *file = argc > 1 ? fopen(argv[1], "rb") : NULL;
@@ -51,6 +65,7 @@ int main(int argc, char **argv)
         print_row(spans + row * CRASHLOG_SPAN_WORDS);
     printf("rows %" PRIu64 " tries %" PRIu64 " whole %s answer %" PRIu32 "\n",
            told.rows, told.tries, told.whole ? "yes" : "no", answer);
+    printf("stop: %s\n", words_of(told.stop));
     free(spans);
     return 0;
 }

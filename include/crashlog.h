@@ -61,7 +61,7 @@ extern "C" {
 #endif
 
 /* Raised by one with every change after which a caller must be compiled again. */
-#define CRASHLOG_INTERFACE_VERSION 2
+#define CRASHLOG_INTERFACE_VERSION 3
 
 /* The answers. Each function's comment says which of them it gives. */
 #define CRASHLOG_DONE 0          /* none of the below */
@@ -76,8 +76,17 @@ extern "C" {
 #define CRASHLOG_SECTIONS_FULL 9 /* a section was to be kept and no row was free */
 #define CRASHLOG_OUTPUT_SHORT 10 /* the result is longer than the output, or than 4,294,967,295 bytes */
 #define CRASHLOG_BAD_FIELD 11    /* a header that can't be encoded */
-#define CRASHLOG_ENDED 254       /* decode: the records have ended (under 4 bytes, a word 0 or a word 0xdeadbeef) */
+#define CRASHLOG_ENDED 254       /* decode: the records have ended; the ending is told */
 #define CRASHLOG_NONE 255        /* section: there is no such row */
+
+/* Why a region stopped: `stop` of a listing. 2, 3 and 4 are the endings: `ending` of a decode is one of them. */
+#define CRASHLOG_STOP_UNTOLD 0        /* no reason is told */
+#define CRASHLOG_STOP_END_OF_INPUT 1  /* no byte was left */
+#define CRASHLOG_STOP_ZERO_WORD 2     /* an ending: a word 0 where a header was due */
+#define CRASHLOG_STOP_DEADBEEF_WORD 3 /* an ending: a word 0xdeadbeef */
+#define CRASHLOG_STOP_FEW_BYTES 4     /* an ending: under 4 bytes were left; for a listing at least 1 */
+#define CRASHLOG_STOP_BAD_HEADER 5    /* the header lacks bytes that it needs, or its type is bad */
+#define CRASHLOG_STOP_SIZE_ZERO 6     /* the header declares no byte */
 
 /* Limits. */
 #define CRASHLOG_MOST_BYTES 1048576 /* of a region or a CPER */
@@ -123,16 +132,16 @@ typedef struct {
     uint64_t tries;    /* headers tried */
     uint64_t bad_type; /* with CRASHLOG_BAD_TYPE, else 0 */
     uint64_t whole;    /* 1 when the answer is CRASHLOG_DONE and every row holds what it declares, else 0 */
-    uint64_t stop;     /* 0 */
+    uint64_t stop;     /* why the region stopped; why a Box in it did is not told */
 } crashlog_listing;
 
-/* What a header decode tells. All but bad_type are 0 unless the answer is CRASHLOG_DONE. */
+/* What a header decode tells. The first three are 0 unless the answer is CRASHLOG_DONE. */
 typedef struct {
     uint64_t declared;    /* bytes that the record says it has */
     uint64_t header_size; /* bytes of its header */
     uint64_t flags;       /* from the rule table */
     uint64_t bad_type;    /* with CRASHLOG_BAD_TYPE, else 0 */
-    uint64_t ending;      /* 0 */
+    uint64_t ending;      /* with CRASHLOG_ENDED how the records ended, else 0 */
 } crashlog_judged;
 
 /* A part of the input; all 0 unless the answer is CRASHLOG_DONE. */
@@ -182,7 +191,8 @@ typedef struct {
  *
  * Answers: DONE, TOO_LONG, BAD_RULES, BAD_HEADER and BAD_TYPE (of the region's first header), EMPTY_REGION, SPANS_FULL,
  * TRIES_SPENT. With DONE, SPANS_FULL and TRIES_SPENT told->rows rows are written; with any other answer it is 0 and the table
- * is as it was. told->tries is told with every answer.
+ * is as it was. told->tries is told with every answer. With DONE, BAD_HEADER, BAD_TYPE and EMPTY_REGION told->stop is a
+ * reason; with any other answer it is CRASHLOG_STOP_UNTOLD.
  */
 uint32_t crashlog_list(const uint8_t *region, uint64_t region_len, const uint32_t *rules, uint64_t rules_len, uint64_t limit,
                        uint32_t *spans, uint64_t spans_len, crashlog_listing *told);
@@ -191,7 +201,8 @@ uint32_t crashlog_list(const uint8_t *region, uint64_t region_len, const uint32_
  * Reads the header at the start of some bytes, of any length.
  *
  * Answers: DONE, BAD_RULES, BAD_HEADER, BAD_TYPE, ENDED. With DONE every field of *header is written; with any other answer
- * *header is untouched. Nothing of it is read.
+ * *header is untouched. Nothing of it is read. With ENDED told->ending is CRASHLOG_STOP_ZERO_WORD, CRASHLOG_STOP_DEADBEEF_WORD
+ * or CRASHLOG_STOP_FEW_BYTES.
  */
 uint32_t crashlog_decode(const uint8_t *bytes, uint64_t bytes_len, const uint32_t *rules, uint64_t rules_len,
                          crashlog_header *header, crashlog_judged *told);

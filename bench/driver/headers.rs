@@ -1,6 +1,6 @@
 //! One record header, decoded and encoded.
-use crate::inputs::{self, HEADERS, UNTOUCHED};
-use crate::library::{Header, Library, PLAIN, PROVED};
+use crate::inputs::{self, HEADERS, STOPS, UNTOUCHED};
+use crate::library::{Header, Judged, Library, PLAIN, PROVED};
 use crate::rust;
 use crate::sample::{C, Candidate, LIBRARY, Times, sample};
 use crate::table::{compared, heading, ratios, row};
@@ -9,14 +9,27 @@ use std::hint::black_box;
 /// More than the longest header.
 const ROOM: usize = 600;
 
-/// The header at the start of some bytes, which all read alike.
-fn decoded(bytes: &[u8], rules: &[u32]) -> Header {
+/// What C and the library tell of some bytes alike, and the header as they leave it.
+fn judged(bytes: &[u8], rules: &[u32]) -> ((u32, Judged), Header) {
     let [plain, proved] = [PLAIN, PROVED].map(|library| {
         let mut header = Header::ZERO;
         (library.decode(bytes, rules, &mut header), header)
     });
     assert_eq!(plain, proved);
-    let ((answer, judged), header) = proved;
+    proved
+}
+
+/// How records end: no header that is timed is an ending.
+pub fn check_endings() {
+    for (bytes, ending) in STOPS.into_iter().filter(|(_, stop)| (2..=4).contains(stop)) {
+        let ((answer, judged), _) = judged(bytes, &[]);
+        assert_eq!((answer, judged.ending), (254, ending));
+    }
+}
+
+/// The header at the start of some bytes, which all read alike.
+fn decoded(bytes: &[u8], rules: &[u32]) -> Header {
+    let ((answer, judged), header) = judged(bytes, rules);
     assert_eq!(answer, 0);
     rust::check_header(bytes, rules, &header, &judged);
     header

@@ -142,6 +142,20 @@ pub fn legacy_boxes(len: usize) -> Vec<u8> {
     })
 }
 
+/// A record of 8 bytes.
+pub const RECORD: [u8; 8] = [0x01, 0x31, 0x12, 0x03, 2, 0, 0, 0];
+
+/// What stops a region, with the number of its reason in crashlog.h. That of an ending is 2, 3 or 4.
+pub const STOPS: [(&[u8], u64); 7] = [
+    (&[], 1),
+    (&[0, 0, 0, 0], 2),
+    (&[0xef, 0xbe, 0xad, 0xde], 3),
+    (&[0x01, 0x31, 0x12], 4),
+    (&[0x01, 0x31, 0x12, 0x03, 2], 5),
+    (&[0x01, 0x37, 0x12, 0x03, 2, 0, 0, 0], 5),
+    (&[0x01, 0x31, 0x12, 0x03, 0, 0, 0, 0], 6),
+];
+
 /// How many sections with bodies of 32 bytes a CPER of a length has.
 pub fn sections_in(len: usize) -> usize {
     (len - 128) / (72 + 32)

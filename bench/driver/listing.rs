@@ -1,6 +1,6 @@
 //! The listing of a region.
-use crate::inputs::{self, MIB};
-use crate::library::{Library, PLAIN, PROVED};
+use crate::inputs::{self, MIB, RECORD, STOPS};
+use crate::library::{Library, Listing, PLAIN, PROVED};
 use crate::rust;
 use crate::sample::{C, Candidate, LIBRARY, Times, sample};
 use crate::span;
@@ -27,8 +27,8 @@ pub fn spans() -> Vec<u32> {
     vec![0; MIB / 4 * span::WORDS]
 }
 
-/// How many rows a region has, which all list alike.
-pub fn checked(region: &[u8], rules: &[u32], spans: &mut [u32]) -> usize {
+/// What C and the library tell of a region alike, and the table as they leave it.
+fn listed(region: &[u8], rules: &[u32], spans: &mut [u32]) -> ((u32, Listing), Vec<u32>) {
     let limit = inputs::most_tries(region);
     let [plain, proved] = [PLAIN, PROVED].map(|library| {
         spans.fill(inputs::UNTOUCHED);
@@ -36,7 +36,23 @@ pub fn checked(region: &[u8], rules: &[u32], spans: &mut [u32]) -> usize {
         (told, spans.to_vec())
     });
     assert!(plain == proved, "C lists {:?}, the library {:?}", plain.0, proved.0);
-    let ((answer, listing), spans) = proved;
+    proved
+}
+
+/// Why a region stops, with a record and without one: those that are timed do not stop for every reason.
+pub fn check_stops() {
+    let mut spans = [0; 2 * span::WORDS];
+    for (tail, stop) in STOPS {
+        for region in [tail.to_vec(), [&RECORD, tail].concat()] {
+            let ((_, listing), _) = listed(&region, &[], &mut spans);
+            assert_eq!(listing.stop, stop);
+        }
+    }
+}
+
+/// How many rows a region has, which all list alike.
+pub fn checked(region: &[u8], rules: &[u32], spans: &mut [u32]) -> usize {
+    let ((answer, listing), spans) = listed(region, rules, spans);
     assert_eq!(answer, 0);
     let rows = listing.rows as usize;
     rust::check_rows(region, rules, &spans[..span::WORDS * rows]);

@@ -21,6 +21,8 @@ mod table;
 mod targets;
 
 fn main() {
+    listing::check_stops();
+    headers::check_endings();
     let rules = library::intel_rules();
     let tables = [Vec::new(), rules.clone(), inputs::padded(&rules, 64)];
     if let Some(folder) = std::env::args().nth(1) {

@@ -86,8 +86,10 @@ uint32_t plain_decode(const uint8_t *bytes, uint64_t bytes_len, const uint32_t *
     if (!rules_valid(rules, rules_len))
         return CRASHLOG_BAD_RULES;
     uint32_t word = word_of(bytes, bytes_len);
-    if (word == 0)
+    if (word == 0) {
+        told->ending = ending_of(bytes, bytes_len);
         return CRASHLOG_ENDED;
+    }
     struct frame frame;
     uint32_t flags = flags_of(rules, rules_len, word);
     uint32_t answer = judge(bytes, bytes_len, word, flags, &frame);

@@ -53,6 +53,14 @@ static inline uint32_t word_of(const uint8_t *bytes, size_t len)
     return word == END_MARK ? 0 : word;
 }
 
+/* How the records have ended, where they have. */
+static inline uint32_t ending_of(const uint8_t *bytes, size_t len)
+{
+    if (len < 4)
+        return CRASHLOG_STOP_FEW_BYTES;
+    return u32_at(bytes) == END_MARK ? CRASHLOG_STOP_DEADBEEF_WORD : CRASHLOG_STOP_ZERO_WORD;
+}
+
 /* Judges a header whose records have not ended: DONE, BAD_HEADER or BAD_TYPE. */
 static inline uint32_t judge(const uint8_t *bytes, size_t len, uint32_t word, uint32_t flags, struct frame *frame)
 {

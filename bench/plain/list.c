@@ -3,7 +3,8 @@
 
 #define DEEPEST 4
 
-enum cut { GOING, FULL, SPENT };
+/* What stops the whole walk, beside the CRASHLOG_STOP numbers, which stop one region. */
+enum { FULL = CRASHLOG_STOP_SIZE_ZERO + 1, SPENT };
 
 /* What the caller lends, and how far the walk has come. */
 struct walk {
@@ -30,8 +31,8 @@ static void put_span(uint32_t *span, uint32_t level, uint32_t parent, uint32_t o
     span[CRASHLOG_SPAN_FLAGS] = flags;
 }
 
-/* The flags of the last version word are remembered, as the library does it. */
-static enum cut walk_region(struct walk *walk, const uint8_t *bytes, size_t len, uint32_t base, uint32_t level,
+/* Gives what stopped it. The flags of the last version word are remembered, as the library does it. */
+static uint32_t walk_region(struct walk *walk, const uint8_t *bytes, size_t len, uint32_t base, uint32_t level,
                             uint32_t parent)
 {
     uint32_t last = 0, flags = 0;
@@ -44,13 +45,15 @@ static enum cut walk_region(struct walk *walk, const uint8_t *bytes, size_t len,
         size_t left = len - at;
         uint32_t word = word_of(record, left);
         if (word == 0)
-            return GOING;
+            return ending_of(record, left);
         if (word != last) {
             last = word;
             flags = flags_of(walk->rules, walk->rules_len, word);
         }
-        if (judge(record, left, word, flags, &frame) != CRASHLOG_DONE || frame.declared == 0)
-            return GOING;
+        if (judge(record, left, word, flags, &frame) != CRASHLOG_DONE)
+            return CRASHLOG_STOP_BAD_HEADER;
+        if (frame.declared == 0)
+            return CRASHLOG_STOP_SIZE_ZERO;
         if (walk->room <= walk->rows)
             return FULL;
         uint32_t held = frame.declared < left ? frame.declared : (uint32_t)left;
@@ -59,24 +62,21 @@ static enum cut walk_region(struct walk *walk, const uint8_t *bytes, size_t len,
         if (held < frame.declared)
             walk->whole = false;
         if (is_box(word, flags) && level < DEEPEST && frame.size < held) {
-            enum cut cut =
+            uint32_t stop =
                 walk_region(walk, record + frame.size, held - frame.size, offset + frame.size, level + 1, row);
-            if (cut != GOING)
-                return cut;
+            if (stop >= FULL)
+                return stop;
         }
     }
-    return GOING;
+    return CRASHLOG_STOP_END_OF_INPUT;
 }
 
-/* Why the first header is no record. */
+/* What is bad in the first header. */
 static uint32_t first_answer(const uint8_t *region, size_t len, const uint32_t *rules, size_t rules_len)
 {
     struct frame frame;
-    uint32_t word = word_of(region, len);
-    if (word == 0)
-        return CRASHLOG_EMPTY_REGION;
-    uint32_t answer = judge(region, len, word, flags_of(rules, rules_len, word), &frame);
-    return answer == CRASHLOG_DONE ? CRASHLOG_EMPTY_REGION : answer;
+    uint32_t word = u32_at(region);
+    return judge(region, len, word, flags_of(rules, rules_len, word), &frame);
 }
 
 uint32_t plain_list(const uint8_t *region, uint64_t region_len, const uint32_t *rules, uint64_t rules_len, uint64_t limit,
@@ -96,17 +96,20 @@ uint32_t plain_list(const uint8_t *region, uint64_t region_len, const uint32_t *
         .room = room < CRASHLOG_NO_PARENT ? (uint32_t)room : CRASHLOG_NO_PARENT - 1,
         .whole = true,
     };
-    enum cut cut = walk_region(&walk, region, region_len, 0, 0, CRASHLOG_NO_PARENT);
+    uint32_t stop = walk_region(&walk, region, region_len, 0, 0, CRASHLOG_NO_PARENT);
     told->rows = walk.rows;
     told->tries = walk.tries;
-    if (cut == FULL)
+    if (stop == FULL)
         return CRASHLOG_SPANS_FULL;
-    if (cut == SPENT)
+    if (stop == SPENT)
         return CRASHLOG_TRIES_SPENT;
+    told->stop = stop;
     if (walk.rows > 0) {
         told->whole = walk.whole;
         return CRASHLOG_DONE;
     }
+    if (stop != CRASHLOG_STOP_BAD_HEADER)
+        return CRASHLOG_EMPTY_REGION;
     uint32_t answer = first_answer(region, region_len, rules, rules_len);
     if (answer == CRASHLOG_BAD_TYPE)
         told->bad_type = header_type(u32_at(region));

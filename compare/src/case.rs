@@ -16,7 +16,7 @@ pub enum Call {
     IntelRules,
 }
 
-/// Where the answer comes from.
+/// Where the answer comes from. Why a region stopped and how records ended comes from document 02, by `stops`.
 #[derive(Clone, Copy, Debug, PartialEq, Eq)]
 pub enum Source {
     Rust = 1,
@@ -63,6 +63,11 @@ impl Case {
 
     pub fn answer(&self) -> u64 {
         self.told[0]
+    }
+
+    /// Why the region stopped, or how the records ended, by its number; other calls tell neither.
+    pub fn stop(&self) -> Option<u64> {
+        matches!(self.call, Call::Listings | Call::Headers).then_some(self.told[5])
     }
 
     /// The case as text, with its whole input.

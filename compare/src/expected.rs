@@ -3,6 +3,7 @@
 use crate::case::{Call, Case, Source, table_bytes};
 use crate::rust::standin;
 use crate::span::{self, Span};
+use crate::stops;
 use crate::text;
 use crate::told::{Container, Outcome, Tried, Walk};
 use std::rc::Rc;
@@ -41,7 +42,10 @@ pub fn header(rules: &Rc<[u32]>, bytes: &Rc<[u8]>) -> Case {
 /// A header case to which is told what the Rust tried.
 pub fn decoded(case: Case, tried: Tried) -> Case {
     match tried {
-        Tried::Ended => case.tell(&[ENDED]),
+        Tried::Ended => {
+            let ending = stops::ending(&case.input);
+            case.tell(&[ENDED, 0, 0, 0, 0, ending])
+        }
         Tried::BadHeader => case.tell(&[BAD_HEADER]),
         Tried::BadType(header_type) => case.tell(&[BAD_TYPE, 0, 0, 0, header_type as u64]),
         Tried::Good(good) => {
@@ -68,7 +72,7 @@ pub fn listing(rules: &Rc<[u32]>, region: &Rc<[u8]>, walk: &Option<Walk>, limit:
     };
     let cut = cut(walk, limit, room / span::WORDS);
     let source = if cut.answer == SPANS_FULL || cut.answer == TRIES_SPENT { Source::CutFromListing } else { Source::Rust };
-    let told = [cut.answer, cut.rows.len() as u64, cut.tries, cut.bad_type, cut.whole as u64];
+    let told = [cut.answer, cut.rows.len() as u64, cut.tries, cut.bad_type, cut.whole as u64, cut.stop];
     Case { source, written: span_bytes(&cut.rows), ..case.tell(&told) }
 }
 
@@ -83,11 +87,12 @@ pub struct Cut {
     pub tries: u64,
     pub bad_type: u64,
     pub whole: bool,
+    pub stop: u64,
 }
 
 /// The part of a walk that a limit of tries and a room of rows allow: the limit is tested before a try, the room after it.
 pub fn cut(walk: &Walk, limit: u64, room: usize) -> Cut {
-    let mut cut = Cut { answer: DONE, rows: Vec::new(), tries: 0, bad_type: 0, whole: false };
+    let mut cut = Cut { answer: DONE, rows: Vec::new(), tries: 0, bad_type: 0, whole: false, stop: stops::UNTOLD };
     for step in &walk.steps {
         if cut.tries == limit {
             return Cut { answer: TRIES_SPENT, ..cut };
@@ -100,6 +105,7 @@ pub fn cut(walk: &Walk, limit: u64, room: usize) -> Cut {
             cut.rows.push(*row);
         }
     }
+    cut.stop = walk.stop;
     match walk.outcome {
         Outcome::BadHeader => Cut { answer: BAD_HEADER, ..cut },
         Outcome::BadType(header_type) => Cut { answer: BAD_TYPE, bad_type: header_type as u64, ..cut },

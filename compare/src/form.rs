@@ -1,6 +1,7 @@
 // How either form of the Rust is asked. rust.rs includes this text once for each form, which it calls `form`.
 
 use crate::span::NO_PARENT;
+use crate::stops;
 use crate::told::{Container, Good, Outcome, Tried, Walk};
 use form::Error;
 use form::cper::Cper;
@@ -45,6 +46,7 @@ struct Attempt {
 
 /// Walks a region from the top, and its children as `get_children` gives them.
 pub fn walk(bytes: &[u8]) -> Walk {
+    let stop = stops::of(bytes, header);
     form::probe::take_tries();
     let top = Region::from_slice(bytes);
     let start = bytes.as_ptr() as usize;
@@ -59,7 +61,7 @@ pub fn walk(bytes: &[u8]) -> Walk {
         Err(Error::EmptyRegion) => Outcome::Empty,
         Err(error) => panic!("no region gives this: {error}"),
     };
-    let mut walk = Walk { steps: Vec::new(), rows: 0, outcome };
+    let mut walk = Walk { steps: Vec::new(), rows: 0, outcome, stop };
     match &top {
         Ok(region) => follow(region, &tries, 0, NO_PARENT, &mut walk),
         Err(_) => walk.steps.extend(tries.iter().map(|_| None)),

@@ -14,6 +14,7 @@ mod replay;
 mod rust;
 mod smallest;
 mod span;
+mod stops;
 mod tally;
 mod text;
 mod told;

@@ -2,6 +2,7 @@
 
 use crate::case::Case;
 use crate::library::Library;
+use crate::stops;
 use std::collections::BTreeMap;
 use std::{mem, process};
 
@@ -11,6 +12,8 @@ const BATCH_BYTES: usize = 1 << 20;
 struct Count {
     cases: u64,
     differing: u64,
+    /// By the number of the reason to stop or the ending that must be told.
+    stops: [u64; stops::NAMES.len()],
 }
 
 pub struct Tally {
@@ -44,6 +47,9 @@ impl Tally {
         });
         for ((kind, case), verdict) in waiting.iter().zip(verdicts) {
             self.note(kind, verdict.is_ok(), || format!("{}\n  {}", case.describe(), verdict.unwrap_err()));
+            if let Some(stop) = case.stop() {
+                self.kinds.entry(kind).or_default().stops[stop as usize] += 1;
+            }
         }
     }
 
@@ -73,5 +79,14 @@ impl Tally {
             println!("{kind:<24} {:>10} {:>10}", count.cases, count.differing);
         }
         println!("{:<24} {:>10} {:>10}", "all", self.cases(), self.differing());
+        self.print_stops();
+    }
+
+    /// How often each reason to stop or ending was to be told, of the kinds that tell one.
+    fn print_stops(&self) {
+        println!("{:<24} {}", "stops and endings", stops::NAMES.map(|name| format!("{name:>12}")).join(" "));
+        for (kind, count) in self.kinds.iter().filter(|(_, count)| count.stops != [0; stops::NAMES.len()]) {
+            println!("{kind:<24} {}", count.stops.map(|times| format!("{times:>12}")).join(" "));
+        }
     }
 }

@@ -32,6 +32,8 @@ pub struct Walk {
     pub steps: Vec<Option<Span>>,
     pub rows: u32,
     pub outcome: Outcome,
+    /// Why the top region stopped, by its number.
+    pub stop: u64,
 }
 
 /// A row of the section table: descriptor index, body offset, body length.

@@ -63,10 +63,11 @@ fn short(tally: &mut Tally) {
     }
 }
 
-/// Every region of three records of 8 bytes that are a Box, another record, a bad type or an end, and declare 0 to 6 words.
+/// Every region of three records of 8 bytes that are a Box, another record, a bad type or an ending, and declare 0 to 6 words.
 fn small_records(tally: &mut Tally) {
     let kinds = [(1, BOX), (0, 3), (7, BOX), (2, BOX)].map(|(kind, record)| words::word(1, kind, 0x123, record));
-    let records: Vec<[u32; 2]> = kinds.iter().chain(&[0]).flat_map(|word| (0..7).map(|size| [*word, size])).collect();
+    let endings = [0, 0xdead_beef];
+    let records: Vec<[u32; 2]> = kinds.iter().chain(&endings).flat_map(|word| (0..7).map(|size| [*word, size])).collect();
     for first in &records {
         for second in &records {
             for third in &records {

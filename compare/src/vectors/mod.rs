@@ -3,6 +3,7 @@
 
 mod boundaries;
 mod sample;
+mod stops;
 mod worked;
 
 use crate::case::{Call, Case};
@@ -28,6 +29,7 @@ const FILES: [(Call, &str); 8] = [
 pub fn list() -> Vec<Case> {
     let mut cases = worked::list();
     cases.extend(boundaries::list());
+    cases.extend(stops::list());
     cases.extend(sample::list());
     cases
 }

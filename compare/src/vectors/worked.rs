@@ -1,4 +1,5 @@
-//! Document 01's worked examples, written out by hand from the paper. What the Rust says must be the same.
+//! Document 01's worked examples, written out by hand from the paper, and why each region stops, by document 02. What the Rust
+//! says must be the same.
 
 use crate::case::{Call, Case, Source};
 use crate::expected;
@@ -26,12 +27,12 @@ fn row(level: u32, parent: u32, offset: u32, held: u32, declared: u32, version: 
     Span { level, parent, offset, held, declared, header_size: 8, version, flags: 0 }
 }
 
-/// A listing with room for so many rows: it tells an answer, tries, a bad type and whole, and writes rows.
-fn listing(region: &[u8], limit: u64, room: usize, told: (u64, u64, u64, u64), rows: &[Span]) -> Case {
-    let (answer, tries, bad_type, whole) = told;
+/// A listing with room for so many rows: it tells an answer, tries, a bad type, whole and why it stopped, and writes rows.
+fn listing(region: &[u8], limit: u64, room: usize, told: [u64; 5], rows: &[Span]) -> Case {
+    let [answer, tries, bad_type, whole, stop] = told;
     let (region, room): (Rc<[u8]>, usize) = (Rc::from(region), room * span::WORDS);
     let case = Case { number: limit, room, ..Case::new(Call::Listings, Source::Paper, &region) };
-    let told = [answer, rows.len() as u64, tries, bad_type, whole];
+    let told = [answer, rows.len() as u64, tries, bad_type, whole, stop];
     let case = Case { written: expected::span_bytes(rows), ..case.tell(&told) };
     let walk = expected::walk(&[], &region);
     agrees(case, expected::listing(&Rc::from([]), &region, &walk, limit, room))
@@ -47,13 +48,13 @@ fn agrees(paper: Case, rust: Case) -> Case {
 fn single_regions() -> Vec<Case> {
     let only = row(0, NO_PARENT, 0, 8, 8, 0x0312_3101);
     vec![
-        listing(&[], AMPLE, 10, (5, 0, 0, 0), &[]),
-        listing(&[0x01, 0x31, 0x12], AMPLE, 10, (5, 1, 0, 0), &[]),
-        listing(&[0xef, 0xbe, 0xad, 0xde], AMPLE, 10, (5, 1, 0, 0), &[]),
-        listing(&[0x01, 0x31, 0x12, 0x03, 0x02], AMPLE, 10, (3, 1, 0, 0), &[]),
-        listing(&P5, AMPLE, 10, (4, 1, 7, 0), &[]),
-        listing(&[0x01, 0x31, 0x12, 0x03, 0, 0, 0, 0], AMPLE, 10, (5, 1, 0, 0), &[]),
-        listing(&[P7_FIRST, P5].concat(), AMPLE, 10, (0, 2, 0, 1), &[only]),
+        listing(&[], AMPLE, 10, [5, 0, 0, 0, 1], &[]),
+        listing(&[0x01, 0x31, 0x12], AMPLE, 10, [5, 1, 0, 0, 4], &[]),
+        listing(&[0xef, 0xbe, 0xad, 0xde], AMPLE, 10, [5, 1, 0, 0, 3], &[]),
+        listing(&[0x01, 0x31, 0x12, 0x03, 0x02], AMPLE, 10, [3, 1, 0, 0, 5], &[]),
+        listing(&P5, AMPLE, 10, [4, 1, 7, 0, 5], &[]),
+        listing(&[0x01, 0x31, 0x12, 0x03, 0, 0, 0, 0], AMPLE, 10, [5, 1, 0, 0, 6], &[]),
+        listing(&[P7_FIRST, P5].concat(), AMPLE, 10, [0, 2, 0, 1, 5], &[only]),
     ]
 }
 
@@ -67,7 +68,7 @@ fn boxes() -> Vec<Case> {
         row(3, 2, 24, 24, 24, 0x3d12_3101),
         row(4, 3, 32, 16, 16, 0x3d12_3101),
     ];
-    vec![listing(&region, AMPLE, 10, (0, 5, 0, 1), &rows)]
+    vec![listing(&region, AMPLE, 10, [0, 5, 0, 1, 1], &rows)]
 }
 
 /// P8 and P9.
@@ -120,9 +121,9 @@ fn dump_input() -> Vec<Case> {
         row(0, NO_PARENT, 20, 8, 16, 0x3e12_3101),
     ];
     vec![
-        listing(&DUMP_INPUT, AMPLE, 10, (0, 4, 0, 0), &rows),
-        listing(&DUMP_INPUT, 2, 10, (7, 2, 0, 0), &rows[..2]),
-        listing(&DUMP_INPUT, AMPLE, 1, (6, 2, 0, 0), &rows[..1]),
+        listing(&DUMP_INPUT, AMPLE, 10, [0, 4, 0, 0, 1], &rows),
+        listing(&DUMP_INPUT, 2, 10, [7, 2, 0, 0, 0], &rows[..2]),
+        listing(&DUMP_INPUT, AMPLE, 1, [6, 2, 0, 0, 0], &rows[..1]),
     ]
 }
 
@@ -155,7 +156,10 @@ fn long_regions() -> Vec<Case> {
         row(0, NO_PARENT, 524_280, 524_280, 524_280, 0x0312_3101),
         row(0, NO_PARENT, 1_048_560, 16, 524_280, 0x0312_3101),
     ];
-    vec![listing(&long(1_048_576), AMPLE, 10, (0, 3, 0, 0), &rows), listing(&long(1_048_577), AMPLE, 10, (1, 0, 0, 0), &[])]
+    vec![
+        listing(&long(1_048_576), AMPLE, 10, [0, 3, 0, 0, 1], &rows),
+        listing(&long(1_048_577), AMPLE, 10, [1, 0, 0, 0, 0], &[]),
+    ]
 }
 
 /// 127 bytes are no CPER; severity 4 is written as 3. The record header is the paper's table, field by field.

@@ -5,7 +5,7 @@ use mathlib.Core.List.{List, [], _∷_}
 use lib.Dec.{eqb}
 use Rattle.answers.specs.Numbers.{done, badRules, badField}
 use Rattle.rules.specs.Rules.{validOf}
-use Rattle.header.specs.Header.{numberOf, typeTold}
+use Rattle.header.specs.Header.{numberOf, typeTold, endingTold}
 use Rattle.header.specs.declared.Answer.{Answer}
 use Rattle.header.specs.declared.Decoded.{Decoded}
 use Rattle.header_encode.specs.Encode.{encodedOf}
@@ -16,9 +16,9 @@ use Rattle.c_header.specs.declared.CHeader.{CHeader}
 
 -- ---- decode
 
--- what is told beside the answer: the declared bytes, the header's size, the flags, the type of answer 4, and the ending, of which there is none
+-- what is told beside the answer: the declared bytes, the header's size, the flags, the type of answer 4, and how the records end
 abbrev pub toldOf : Answer → ℕ → ℕ → ℕ → List ℕ
-toldOf answer declared size flags = declared ∷ size ∷ flags ∷ typeTold answer ∷ 0 ∷ []
+toldOf answer declared size flags = declared ∷ size ∷ flags ∷ typeTold answer ∷ endingTold answer ∷ []
 
 -- the header behind the pointer, which is a new one with answer 0 alone; what is told; the answer
 unfoldable pub decodeOut : CHeader → Decoded → CHeader × List ℕ × ℕ

@@ -26,12 +26,13 @@ fn tell(told: &mut [u64; 5], judged: Judged)
 {
     let answer = judged.answer;
     let bad_type = header::type_told(answer);
+    let ending = header::ending_told(answer);
     *told = [
         judged.declared as u64,
         judged.header_size as u64,
         judged.flags as u64,
         bad_type as u64,
-        0,
+        ending as u64,
     ];
 }
 

@@ -8,7 +8,7 @@ use c_header::codec::header_at;
 use c_header::codec::see;
 
 // The header at the start of some bytes. What lies behind `header` is written with answer 0 alone.
-// `told` gets the declared bytes, the header's size, the flags, the type of answer 4, and the ending, of which there is none.
+// `told` gets the declared bytes, the header's size, the flags, the type of answer 4, and how the records end where they do.
 #[no_mangle]
 pub extern "C" fn crashlog_decode(
     bytes: &[u8],

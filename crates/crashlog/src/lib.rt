@@ -10,6 +10,7 @@ pub mod containers;
 pub mod headers;
 
 use header_judge::version::bit_of;
+use region_try::stop::stop_number;
 
 // The nested listing of a region.
 #[no_mangle]
@@ -24,12 +25,13 @@ pub extern "C" fn crashlog_list(
 {
     let listing = region::list(region, rules, limit, spans);
     let answer = listing.answer;
+    let stop = listing.stop;
     *told = [
         listing.rows as u64,
         listing.tries,
         region::type_of(answer) as u64,
         bit_of(listing.whole) as u64,
-        0,
+        stop_number(stop) as u64,
     ];
     region::number_of(answer)
 }

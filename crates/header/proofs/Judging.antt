@@ -17,7 +17,7 @@ use Rattle.header.specs.declared.Answer.the-variants.{BadRules}
 module _ (rules bs : List ℕ) where
   head-held : (h : Head) → headOf rules bs ≡ h → Held bs (judgedFrom h)
   unfolding judgedFrom
-  head-held Head.Ended e done = absurd (omega arith)
+  head-held (Head.Ended ending) e done = absurd (omega arith)
   head-held Head.BadHeader e done = absurd (omega arith)
   head-held (Head.BadType t) e done = absurd (omega arith)
   head-held (Record word flags declared size) e done = record-told rules bs e .found

@@ -6,7 +6,7 @@ use lib.Dec.{eqb}
 use Rattle.answers.specs.Numbers.{done, badRules, badHeader, badType, ended}
 use Rattle.rules.specs.Rules.{validOf}
 use Rattle.layout.specs.Fields.{readAll}
-use Rattle.header_judge.specs.Version.{versionOf}
+use Rattle.header_judge.specs.Version.{endingNumber, versionOf}
 use Rattle.header_judge.specs.Head.{recordSize, extendedSize, layoutOf, countOf, headOf}
 use Rattle.header_judge.specs.declared.RecordSize.{RecordSize}
 use Rattle.header_judge.specs.declared.Layout.{Layout}
@@ -25,7 +25,7 @@ use Rattle.header.specs.declared.Decoded.{Decoded}
 -- document 01's number of each answer
 abbrev pub numberOf : Answer → ℕ
 numberOf Done = done
-numberOf Ended = ended
+numberOf (Ended e) = ended
 numberOf BadRules = badRules
 numberOf BadHeader = badHeader
 numberOf (BadType t) = badType
@@ -33,10 +33,18 @@ numberOf (BadType t) = badType
 -- the type that comes with it
 abbrev pub typeTold : Answer → ℕ
 typeTold Done = 0
-typeTold Ended = 0
+typeTold (Ended e) = 0
 typeTold BadRules = 0
 typeTold BadHeader = 0
 typeTold (BadType t) = t
+
+-- the number of the ending that comes with it
+abbrev pub endingTold : Answer → ℕ
+endingTold Done = 0
+endingTold (Ended e) = endingNumber e
+endingTold BadRules = 0
+endingTold BadHeader = 0
+endingTold (BadType t) = 0
 
 -- ---- a header judged
 
@@ -45,7 +53,7 @@ refusal a = record { answer = a; word = 0; flags = 0; declared = 0; «header_siz
 
 -- by what one try found
 unfoldable pub judgedFrom : Head → Judged
-judgedFrom Head.Ended = refusal Ended
+judgedFrom (Head.Ended e) = refusal (Ended e)
 judgedFrom Head.BadHeader = refusal BadHeader
 judgedFrom (Head.BadType t) = refusal (BadType t)
 judgedFrom (Record word flags declared size) =

@@ -2,7 +2,7 @@
 ghost use mathlib.Core.Path.{_≡_};
 ghost use Prim.Native.Nat.{_<_};
 ghost use Rattle.header_judge.specs.Head.{lacking, sizeOf};
-ghost use Rattle.header.specs.Header.{numberOf, typeTold, refusal, judgedOf, headerOf, zeroHeader, headerFrom, decodedOf};
+ghost use Rattle.header.specs.Header.{numberOf, typeTold, endingTold, refusal, judgedOf, headerOf, zeroHeader, headerFrom, decodedOf};
 ghost use Rattle.header.specs.Steps.{Held};
 
 pub mod access;
@@ -12,7 +12,9 @@ use fields::fields_of;
 use fields::statuses_of;
 use header_judge::Head;
 use header_judge::RecordSize;
+use header_judge::version::Ending;
 use header_judge::version::Version;
+use header_judge::version::ending_number;
 
 // The fields that most layouts share.
 pub struct Stamp {
@@ -78,7 +80,7 @@ pub struct Header {
 // What a decode answers.
 pub enum Answer {
     Done,
-    Ended,
+    Ended(Ending),
     BadRules,
     BadHeader,
     BadType(u32),
@@ -108,7 +110,7 @@ pub fn number_of(answer: Answer) -> u32
 {
     match answer {
         Answer::Done => answers::DONE,
-        Answer::Ended => answers::ENDED,
+        Answer::Ended(_) => answers::ENDED,
         Answer::BadRules => answers::BAD_RULES,
         Answer::BadHeader => answers::BAD_HEADER,
         Answer::BadType(_) => answers::BAD_TYPE,
@@ -121,10 +123,23 @@ pub fn type_told(answer: Answer) -> u32
 {
     match answer {
         Answer::Done => 0,
-        Answer::Ended => 0,
+        Answer::Ended(_) => 0,
         Answer::BadRules => 0,
         Answer::BadHeader => 0,
         Answer::BadType(header_type) => header_type,
+    }
+}
+
+// The number of the ending that comes with Ended; else 0.
+pub fn ending_told(answer: Answer) -> u32
+    ensures { λ r. ⌜ r ≡ endingTold answer ⌝ }
+{
+    match answer {
+        Answer::Done => 0,
+        Answer::Ended(ending) => ending_number(ending),
+        Answer::BadRules => 0,
+        Answer::BadHeader => 0,
+        Answer::BadType(_) => 0,
     }
 }
 
@@ -148,7 +163,7 @@ pub fn judge(s: &[u8], rules: &[u32]) -> Judged
         return refused(Answer::BadRules);
     }
     match header_judge::judge(s, rules) {
-        Head::Ended => refused(Answer::Ended),
+        Head::Ended(ending) => refused(Answer::Ended(ending)),
         Head::BadHeader => refused(Answer::BadHeader),
         Head::BadType(header_type) => refused(Answer::BadType(header_type)),
         Head::Record {

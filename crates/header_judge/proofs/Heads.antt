@@ -8,12 +8,12 @@ use native.Mathlib.Omega.{arith}
 use lib.Dec.{eqb}
 use borrow.Author.Tests.{eq-eqb, ne-eqb, eqb-false}
 use Rattle.rules.specs.Rules.{flagsOf}
-use Rattle.header_judge.specs.Version.{noWord, wordOf, headerType}
+use Rattle.header_judge.specs.Version.{noWord, wordOf, endingOf, headerType}
 use Rattle.header_judge.specs.Head.{declaredOf, noSize, lacking, sizeOf, headWith, headOf}
 use Rattle.header_judge.specs.declared.Head.the-variants.{Ended, BadHeader, BadType, Record}
 
 module _ (bs : List ℕ) (word flags : ℕ) where
-  pub head-ended : word ≡ noWord → headWith bs word flags ≡ Ended
+  pub head-ended : word ≡ noWord → headWith bs word flags ≡ Ended (endingOf bs)
   unfolding headWith
   head-ended e = rw (eq-eqb word noWord e)
 
@@ -58,7 +58,7 @@ record-told rules bs {word} {flags} {declared} {size} h =
     z = sizeOf bs w f
 
     by : (i : Bool) → eqb w noWord ≡ i → (j : Bool) → eqb z noSize ≡ j → (k : Bool) → eqb z lacking ≡ k
-        → cond i Ended (cond j (BadType (headerType w)) (cond k BadHeader (Record w f (declaredOf bs f) z))) ≡ Record word flags declared size
+        → cond i (Ended (endingOf bs)) (cond j (BadType (headerType w)) (cond k BadHeader (Record w f (declaredOf bs f) z))) ≡ Record word flags declared size
         → Told rules bs word flags declared size
     by true i j p k q h = absurd (let o : _≡_ {A = ℕ} 0 1 = cc in omega arith)
     by false i true p k q h = absurd (let o : _≡_ {A = ℕ} 0 1 = cc in omega arith)

@@ -7,7 +7,7 @@ use lib.ListN.{length, getD}
 use Rattle.answers.specs.Numbers.{done, badHeader, badType, ended}
 use Rattle.le.specs.Le.{le}
 use Rattle.rules.specs.Rules.{has, legacyServer, legacyGpu, legacyServerBox, sizesInBytes, flagsOf}
-use Rattle.header_judge.specs.Version.{noWord, wordOf, headerType, recordType}
+use Rattle.header_judge.specs.Version.{noWord, wordOf, endingOf, headerType, recordType}
 use Rattle.header_judge.specs.declared.Layout.{Layout}
 use Rattle.header_judge.specs.declared.Layout.the-variants.{Zero, One, Two, Three, Four, Five, Six, LegacyServer, LegacyGpu, Bad}
 use Rattle.header_judge.specs.declared.Shape.{Shape}
@@ -100,7 +100,7 @@ isBox word flags = eqb (recordType word) 0x3d || has flags legacyServerBox
 -- the header, where its word and flags are known
 unfoldable pub headWith : List ℕ → ℕ → ℕ → Head
 headWith bs word flags =
-    cond (eqb word noWord) Ended
+    cond (eqb word noWord) (Ended (endingOf bs))
     (cond (eqb (sizeOf bs word flags) noSize) (BadType (headerType word))
     (cond (eqb (sizeOf bs word flags) lacking) BadHeader
     (Record word flags (declaredOf bs flags) (sizeOf bs word flags))))
@@ -111,7 +111,7 @@ headOf rules bs = headWith bs (wordOf bs) (flagsOf rules (wordOf bs))
 
 -- document 01's number of each case
 abbrev pub numberOf : Head → ℕ
-numberOf Ended = ended
+numberOf (Ended ending) = ended
 numberOf BadHeader = badHeader
 numberOf (BadType t) = badType
 numberOf (Record word flags declared size) = done

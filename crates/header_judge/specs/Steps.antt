@@ -18,7 +18,7 @@ Measured bs flags size = lacking < size → Sized bs flags size
 
 -- the bounds of the numbers that one try finds
 abbrev pub HeadBounds : Head → Type 0
-HeadBounds Ended = Unit {0}
+HeadBounds (Ended ending) = Unit {0}
 HeadBounds BadHeader = Unit {0}
 HeadBounds (BadType t) = (7 ≤ t) × (t < 16)
 HeadBounds (Record word flags declared size) = (declared ≤ 524280) × (8 ≤ size) × (size ≤ 536)

@@ -4,8 +4,11 @@ use mathlib.Core.Bool.{Bool, true, false, cond}
 use mathlib.Core.List.{List}
 use lib.Dec.{eqb, ltb}
 use lib.ListN.{length}
+use Rattle.answers.specs.Stops as stops
 use Rattle.le.specs.Le.{le}
 use Rattle.header_judge.specs.declared.version.Version.{Version}
+use Rattle.header_judge.specs.declared.version.Ending.{Ending}
+use Rattle.header_judge.specs.declared.version.Ending.the-variants.{ZeroWord, DeadbeefWord, FewBytes}
 use Rattle.header_judge.specs.declared.version.Start.{Start}
 use Rattle.header_judge.specs.declared.version.Start.the-variants.{Ended, Versioned}
 
@@ -20,6 +23,16 @@ endMark = 0xdeadbeef
 -- the version word at the start of some bytes; none under 4 bytes, at word 0 and at the end mark
 unfoldable pub wordOf : List ℕ → ℕ
 wordOf bs = cond (ltb (length bs) 4) noWord (cond (eqb (le 4 bs 0) endMark) noWord (le 4 bs 0))
+
+-- how the records end where there is no word (document 02, C-12)
+unfoldable pub endingOf : List ℕ → Ending
+endingOf bs = cond (ltb (length bs) 4) FewBytes (cond (eqb (le 4 bs 0) endMark) DeadbeefWord ZeroWord)
+
+-- the number of each ending
+abbrev pub endingNumber : Ending → ℕ
+endingNumber ZeroWord = stops.zeroWord
+endingNumber DeadbeefWord = stops.deadbeefWord
+endingNumber FewBytes = stops.fewBytes
 
 -- ---- the fields of a word, by their lowest bit
 
@@ -58,9 +71,9 @@ versionOf word =
       cldic = cldic word;
     }
 
--- the fields, or ended
+-- the fields, or how the records end
 abbrev pub startOf : List ℕ → Start
-startOf bs = cond (eqb (wordOf bs) noWord) Ended (Versioned (versionOf (wordOf bs)))
+startOf bs = cond (eqb (wordOf bs) noWord) (Ended (endingOf bs)) (Versioned (versionOf (wordOf bs)))
 
 -- ---- the word of some fields
 

@@ -8,7 +8,9 @@ ghost use Rattle.header_judge.specs.Head.{legacy, recordSize, extendedSi
 
 pub mod version;
 
+use version::Ending;
 use version::NO_WORD;
+use version::ending_of;
 use version::word_of;
 
 // How the fields of a header lie.
@@ -38,7 +40,7 @@ pub struct RecordSize {
 
 // What one try finds.
 pub enum Head {
-    Ended,
+    Ended(Ending),
     BadHeader,
     BadType(u32),
     Record {
@@ -220,7 +222,7 @@ pub fn judge(s: &[u8], rules: &[u32]) -> Head
 {
     let word = word_of(s);
     if word == NO_WORD {
-        return Head::Ended;
+        return Head::Ended(ending_of(s));
     }
     let flags = rules::flags(rules, word);
     let size = size_of(s, word, flags);

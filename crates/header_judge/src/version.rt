@@ -1,7 +1,8 @@
 // The version word at the start of a record: read, taken apart into its fields, and put together again.
 ghost use mathlib.Core.Path.{_≡_};
 ghost use Prim.Native.Nat.{_≤_};
-ghost use Rattle.header_judge.specs.Version.{wordOf, versionOf, startOf, InBits, bit, wordFrom};
+ghost use Rattle.header_judge.specs.Version.{wordOf, endingOf, endingNumber, versionOf, startOf, InBits, bit, wordFrom};
+use answers::stops;
 
 // Version of a Crash Log record.
 pub struct Version {
@@ -13,9 +14,16 @@ pub struct Version {
     pub cldic: bool,
 }
 
-// The start of a record: its version, or the end of the records.
+// How the records end, where no record starts.
+pub enum Ending {
+    ZeroWord,
+    DeadbeefWord,
+    FewBytes,
+}
+
+// The start of a record: its version, or how the records end.
 pub enum Start {
-    Ended,
+    Ended(Ending),
     Versioned(Version),
 }
 
@@ -39,6 +47,30 @@ pub fn word_of(s: &[u8]) -> u32
     word
 }
 
+// How the records end at a place that has no word.
+pub fn ending_of(s: &[u8]) -> Ending
+    ensures { λ r. ⌜ r ≡ endingOf (now (s .entry)) ⌝ }
+{
+    if s.len() < 4 {
+        return Ending::FewBytes;
+    }
+    if le::u32_at(s, 0) == END_MARK {
+        return Ending::DeadbeefWord;
+    }
+    Ending::ZeroWord
+}
+
+// The number of an ending.
+pub fn ending_number(ending: Ending) -> u32
+    ensures { λ r. ⌜ r ≡ endingNumber ending ⌝ }
+{
+    match ending {
+        Ending::ZeroWord => stops::ZERO_WORD,
+        Ending::DeadbeefWord => stops::DEADBEEF_WORD,
+        Ending::FewBytes => stops::FEW_BYTES,
+    }
+}
+
 impl Version {
     pub fn from_u32(word: u32) -> Version
         ensures { λ r. ⌜ r ≡ versionOf word ⌝ }
@@ -58,7 +90,7 @@ impl Version {
     {
         let word = word_of(s);
         if word == NO_WORD {
-            return Start::Ended;
+            return Start::Ended(ending_of(s));
         }
         Start::Versioned(Version::from_u32(word))
     }

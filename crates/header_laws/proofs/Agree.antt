@@ -25,15 +25,15 @@ use Rattle.header_laws.proofs.Done.{answer-of-head, decoded-of-record, 
 
 -- the case of one try that an answer tells, where it tells a refusal
 refusedAs : Answer → Head
-refusedAs Done = Head.Ended
-refusedAs Ended = Head.Ended
-refusedAs BadRules = Head.Ended
+refusedAs Done = Head.BadHeader
+refusedAs (Ended e) = Head.Ended e
+refusedAs BadRules = Head.BadHeader
 refusedAs BadHeader = Head.BadHeader
 refusedAs (BadType t) = Head.BadType t
 
 refused-as : (h : Head) → (answerFor h ≡ Done → ⊥) → refusedAs (answerFor h) ≡ h
 unfolding refusedAs
-refused-as Head.Ended f = refl
+refused-as (Head.Ended e) f = refl
 refused-as Head.BadHeader f = refl
 refused-as (Head.BadType t) f = refl
 refused-as (Record word flags declared size) f = absurd (f refl)
@@ -54,7 +54,7 @@ module _ (rules bs : List ℕ) where
     pub record-decoded : {word flags declared size : ℕ} → headOf rules bs ≡ Record word flags declared size → decodedOf rules bs ≡ decodedRecord bs word flags declared size
     record-decoded = decoded-of-record rules bs valid
 
-    -- noWord, bad header and bad type: the one gives them where the other does
+    -- ended, by the same ending, bad header and bad type: the one gives them where the other does
     pub refusals-agree : (h : Head) → (answerFor h ≡ Done → ⊥) → (headOf rules bs ≡ h) ↔ (decodedOf rules bs .answer ≡ answerFor h)
     refusals-agree h f = (
       λ e. answer-of-head rules bs valid ∙ ap answerFor e,
@@ -87,7 +87,7 @@ module _ (rules bs : List ℕ) where
 
 number-from : (h : Head) → numberOf (judgedFrom h .answer) ≡ headNumber h
 unfolding judgedFrom
-number-from Head.Ended = refl
+number-from (Head.Ended e) = refl
 number-from Head.BadHeader = refl
 number-from (Head.BadType t) = refl
 number-from (Record word flags declared size) = refl

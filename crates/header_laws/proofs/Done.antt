@@ -34,7 +34,7 @@ word-read bs there = by (ltb (length bs) 4) (eqb (le 4 bs 0) endMark) refl there
 
 answer-from : (h : Head) → judgedFrom h .answer ≡ answerFor h
 unfolding judgedFrom
-answer-from Head.Ended = refl
+answer-from (Head.Ended e) = refl
 answer-from Head.BadHeader = refl
 answer-from (Head.BadType t) = refl
 answer-from (Record word flags declared size) = refl
@@ -86,7 +86,7 @@ module _ (rules bs : List ℕ) where
   done-known done = by (headOf rules bs) refl (sym (answer-of-head (done-valid done)) ∙ done)
     where
       by : (h : Head) → headOf rules bs ≡ h → answerFor h ≡ Done → Known
-      by Head.Ended e f = absurd (let o : _≡_ {A = ℕ} 0 1 = cc in omega arith)
+      by (Head.Ended ending) e f = absurd (let o : _≡_ {A = ℕ} 0 1 = cc in omega arith)
       by Head.BadHeader e f = absurd (let o : _≡_ {A = ℕ} 0 1 = cc in omega arith)
       by (Head.BadType t) e f = absurd (let o : _≡_ {A = ℕ} 0 1 = cc in omega arith)
       by (Record w f d z) e _ =

@@ -10,7 +10,7 @@ use Rattle.header.specs.declared.Decoded.{Decoded}
 
 -- the answer for what one try found
 abbrev pub answerFor : Head → Answer
-answerFor Head.Ended = Ended
+answerFor (Head.Ended e) = Ended e
 answerFor Head.BadHeader = BadHeader
 answerFor (Head.BadType t) = BadType t
 answerFor (Record word flags declared size) = Done

@@ -13,18 +13,23 @@ use borrow.Author.Tests.{lt-ltb, le-ltb}
 use Rattle.answers.specs.Numbers.{mostBytes}
 use Rattle.basics.proofs.Orders.{le-or-lt}
 use Rattle.rules.specs.Rules.{validOf}
-use Rattle.header_judge.specs.Head.{isBox, headOf}
+use Rattle.header_judge.specs.Head.{isBox}
 use Rattle.header_judge.specs.declared.Head.{Head}
 use Rattle.region_rows.specs.declared.Span.{Span}
 use Rattle.region_rows.specs.Rows.{width, top, mostRows, capacity, withSpan, laid}
 use Rattle.region_rows.proofs.Rows.{stored, stored-none, stored-more, stored-laid}
+use Rattle.region_try.specs.Stops.{stopBy, badTypeBy, Standing, standingTold, stopOf, badTypeOf}
 use Rattle.region_try.specs.Tries.{Try, none, hit, deepest, regionTries, allTries}
 use Rattle.region_try.specs.Steps.{Walk, state, step, run}
-use Rattle.region.specs.Listing.{numberOf, answerOf, Shown, tried, triedRow, shown, noneShort, refusal, walked, listed}
+use Rattle.region_walk.specs.Steps.{ended, regionEnd}
+use Rattle.region_walk.specs.declared.Walked.{Walked}
+use Rattle.region.specs.Listing.{numberOf, answerOf, topStands, Shown, tried, triedRow, shown, noneShort, refusal, walked, listed}
 use Rattle.region.specs.declared.Answer.the-variants.{TooLong, BadRules}
 use Rattle.region.specs.declared.Listing.{Listing}
+use Rattle.region_try.specs.declared.Cut.{Cut}
 use Rattle.region_try.specs.declared.Cut.the-variants.{Going, Full, Spent}
 use Rattle.region_try.specs.declared.Found.the-variants.{Nothing, NoRoom, Row}
+use Rattle.region_try.proofs.Heads.{stopped}
 use Rattle.region_try.proofs.Finds.{finds-nothing, finds-no-room, finds-row}
 use Rattle.region_try.proofs.Runs.{spent-going, full-going, step-spent, step-made, run-none, run-cons, run-cut}
 use Rattle.region_try.proofs.Bound.{all-bound, bytes-are-units}
@@ -39,9 +44,9 @@ shown-spent : (room : ℕ) (v : Try) (vs : List Try) → shown 0 room (v ∷ vs)
 unfolding shown
 shown-spent room v vs = refl
 
-shown-none : (limit room : ℕ) (o : ℕ) (head : Head) (vs : List Try) → shown (suc limit) room (none o head ∷ vs) ≡ tried (shown limit room vs)
+shown-none : (limit room : ℕ) (l o : ℕ) (head : Head) (vs : List Try) → shown (suc limit) room (none l o head ∷ vs) ≡ tried (shown limit room vs)
 unfolding shown
-shown-none limit room o head vs = refl
+shown-none limit room l o head vs = refl
 
 shown-full : (limit : ℕ) (r : Span) (vs : List Try) → shown (suc limit) 0 (hit r ∷ vs) ≡ record { rows = []; tries = 1; cut = Full }
 unfolding shown
@@ -83,13 +88,13 @@ module _ (limit room : ℕ) where
   run-shows : (vs : List Try) (t : List ℕ) (q n : ℕ) (whole : Bool)
       → run limit room vs (t, state q n whole Going) ≡ shows t q n whole (shown (limit - n) (room - q) vs)
   run-shows [] t q n whole = rw (run-none, shown-end, stored-none, short-none, add-zero q, add-zero n)
-  run-shows (none o head ∷ vs) t q n whole = ⊎-elim
-      (λ h. run-spent (none o head) vs t q n whole h)
+  run-shows (none l o head ∷ vs) t q n whole = ⊎-elim
+      (λ h. run-spent (none l o head) vs t q n whole h)
       (λ h.
       let z : limit - n ≡ suc (limit - (n + 1)) = omega arith in
       let i : n + 1 + shown (limit - (n + 1)) (room - q) vs .tries ≡ n + suc (shown (limit - (n + 1)) (room - q) vs .tries) = omega arith in
-      run-on (none o head) vs (t, state q n whole Going) (t, state q (n + 1) whole Going)
-      (step-made limit room (none o head) t t Nothing q n whole h (finds-nothing room q t refl))
+      run-on (none l o head) vs (t, state q n whole Going) (t, state q (n + 1) whole Going)
+      (step-made limit room (none l o head) t t (Nothing (stopBy head) (badTypeBy head)) q n whole h (finds-nothing room q t (stopped l o head)))
       ∙ run-shows vs t q (n + 1) whole
       ∙ rw (z, shown-none, i))
       (le-or-lt limit n)
@@ -122,7 +127,7 @@ shown-room : (limit room : ℕ) (vs : List Try) → length (shown limit room vs 
 unfolding shown
 shown-room limit room [] = omega arith
 shown-room zero room (v ∷ vs) = omega arith
-shown-room (suc limit) room (none o head ∷ vs) = shown-room limit room vs
+shown-room (suc limit) room (none l o head ∷ vs) = shown-room limit room vs
 shown-room (suc limit) zero (hit r ∷ vs) = omega arith
 shown-room (suc limit) (suc room) (hit r ∷ vs) = let h : length (shown limit room vs .rows) ≤ room = shown-room limit room vs in omega arith
 
@@ -133,7 +138,7 @@ room-enough : (limit a b : ℕ) (vs : List Try) → length vs ≤ a → length v
 unfolding shown
 room-enough limit a b [] h g = refl
 room-enough zero a b (v ∷ vs) h g = refl
-room-enough (suc limit) a b (none o head ∷ vs) h g = ap (λ (s : Shown). tried s) (room-enough limit a b vs (omega arith) (omega arith))
+room-enough (suc limit) a b (none l o head ∷ vs) h g = ap (λ (s : Shown). tried s) (room-enough limit a b vs (omega arith) (omega arith))
 room-enough (suc limit) zero b (hit r ∷ vs) h g = absurd (omega arith)
 room-enough (suc limit) (suc a) zero (hit r ∷ vs) h g = absurd (omega arith)
 room-enough (suc limit) (suc a) (suc b) (hit r ∷ vs) h g = ap (λ (s : Shown). triedRow r s) (room-enough limit a b vs (omega arith) (omega arith))
@@ -145,6 +150,12 @@ capped limit room cap vs h =
     (λ g. let e : min room cap ≡ room = omega arith in rw e)
     (λ g. room-enough limit (min room cap) room vs (omega arith) (omega arith))
     (le-or-lt room cap)
+
+-- the answer by what is told
+answer-told : (cut : Cut) (n : ℕ) (s : Standing) → answerOf cut n (stopOf (standingTold cut s)) (badTypeOf (standingTold cut s)) ≡ answerOf cut n (stopOf s) (badTypeOf s)
+answer-told Going n s = refl
+answer-told Full n s = refl
+answer-told Spent n s = refl
 
 -- ---- the whole listing
 
@@ -184,18 +195,20 @@ module _ (rules bytes : List ℕ) (limit : ℕ) (t : List ℕ) where
         ∙ rw (sub-zero limit, sub-zero (min (capacity t) mostRows), uncapped, zero-add (length (all .rows)), zero-add (all .tries), laid-eq)
 
     -- a listing made of the end of a run
-    abbrev made : Walk → List ℕ × Listing
+    abbrev made : List ℕ × Walked → List ℕ × Listing
     made m =
-        let answer = answerOf (m .1 .cut) (m .1 .rows) (headOf rules bytes) in
-        (m .0, record { answer = answer; rows = m .1 .rows; tries = m .1 .tries; whole = eqb (numberOf answer) 0 && m .1 .whole })
+        let answer = answerOf (m .1 .cut) (m .1 .rows) (m .1 .stop) (m .1 .«bad_type») in
+        (m .0, record { answer = answer; rows = m .1 .rows; tries = m .1 .tries; whole = eqb (numberOf answer) 0 && m .1 .whole; stop = m .1 .stop })
 
-    walked-eq : made (laid (all .rows) t, state (length (all .rows)) (all .tries) (noneShort (all .rows)) (all .cut)) ≡ walked rules bytes limit t
+    walked-eq : made (ended (topStands rules bytes) (laid (all .rows) t, state (length (all .rows)) (all .tries) (noneShort (all .rows)) (all .cut))) ≡ walked rules bytes limit t
     unfolding walked
-    walked-eq = refl
+    walked-eq = rw (answer-told (all .cut) (length (all .rows)) (topStands rules bytes))
 
-    pub listed-run : validOf rules ≡ true → (m : Walk) → m ≡ run limit (min (capacity t) mostRows) (regionTries rules deepest bytes 0 top 0) (t, state 0 0 true Going)
+    pub listed-run : validOf rules ≡ true → (m : List ℕ × Walked)
+        → m ≡ regionEnd limit (min (capacity t) mostRows) deepest (regionTries rules deepest bytes 0 top 0) (t, state 0 0 true Going)
         → made m ≡ listed rules bytes limit t
-    listed-run g m e = ap made (e ∙ runs) ∙ walked-eq ∙ sym (listed-walked g)
+    unfolding allTries
+    listed-run g m e = ap made (e ∙ ap (ended (topStands rules bytes)) runs) ∙ walked-eq ∙ sym (listed-walked g)
 
 -- ---- every listing
 

@@ -7,14 +7,13 @@ use lib.ListN.{length}
 use Rattle.answers.specs.Numbers as answer
 use Rattle.answers.specs.Numbers.{mostBytes}
 use Rattle.rules.specs.Rules.{validOf}
-use Rattle.header_judge.specs.declared.Head.{Head}
-use Rattle.header_judge.specs.declared.Head.the-variants.{Ended, BadHeader as HeadBad, BadType as HeadBadType, Record}
-use Rattle.header_judge.specs.Head.{headOf}
 use Rattle.region_rows.specs.declared.Span.{Span}
 use Rattle.region_rows.specs.Rows.{capacity, laid}
-use Rattle.region_try.specs.Tries.{Try, none, hit, allTries}
+use Rattle.region_try.specs.Stops.{Standing, standingTold, stopOf, badTypeOf}
+use Rattle.region_try.specs.Tries.{Try, none, hit, standsAt, allTries}
 use Rattle.region_try.specs.declared.Cut.{Cut}
 use Rattle.region_try.specs.declared.Cut.the-variants.{Going, Full, Spent}
+use Rattle.region_try.specs.declared.stop.Stop.{Stop}
 use Rattle.region.specs.declared.Answer.{Answer}
 use Rattle.region.specs.declared.Answer.the-variants.{Done, TooLong, BadRules, BadHeader, BadType, Empty, SpansFull, TriesSpent}
 use Rattle.region.specs.declared.Listing.{Listing}
@@ -43,19 +42,23 @@ typeOf Empty = 0
 typeOf SpansFull = 0
 typeOf TriesSpent = 0
 
--- the answer where the first header is no record
-abbrev pub answerFirst : Head → Answer
-answerFirst Ended = Empty
-answerFirst HeadBad = BadHeader
-answerFirst (HeadBadType t) = BadType t
-answerFirst (Record word flags declared size) = Empty
+-- the answer where the top region stops without a record, by the reason and its bad type
+abbrev pub answerWithout : Stop → ℕ → Answer
+answerWithout Stop.Untold t = Empty
+answerWithout Stop.EndOfInput t = Empty
+answerWithout Stop.ZeroWord t = Empty
+answerWithout Stop.DeadbeefWord t = Empty
+answerWithout Stop.FewBytes t = Empty
+answerWithout Stop.BadHeader t = BadHeader
+answerWithout Stop.BadType t = BadType t
+answerWithout Stop.SizeZero t = Empty
 
--- the answer from what cut the walk off, the number of rows and the first header
-abbrev pub answerOf : Cut → ℕ → Head → Answer
-answerOf Full n head = SpansFull
-answerOf Spent n head = TriesSpent
-answerOf Going zero head = answerFirst head
-answerOf Going (suc n) head = Done
+-- the answer from what cut the walk off, the number of rows, and why the top region stops
+abbrev pub answerOf : Cut → ℕ → Stop → ℕ → Answer
+answerOf Full n stop t = SpansFull
+answerOf Spent n stop t = TriesSpent
+answerOf Going zero stop t = answerWithout stop t
+answerOf Going (suc n) stop t = Done
 
 -- ---- the rows
 
@@ -76,7 +79,7 @@ triedRow r s = record { rows = r ∷ s .rows; tries = suc (s .tries); cut = s .c
 unfoldable pub shown : ℕ → ℕ → List Try → Shown
 shown limit room [] = record { rows = []; tries = 0; cut = Going }
 shown zero room (v ∷ vs) = record { rows = []; tries = 0; cut = Spent }
-shown (suc limit) room (none offset head ∷ vs) = tried (shown limit room vs)
+shown (suc limit) room (none level offset head ∷ vs) = tried (shown limit room vs)
 shown (suc limit) zero (hit r ∷ vs) = record { rows = []; tries = 1; cut = Full }
 shown (suc limit) (suc room) (hit r ∷ vs) = triedRow r (shown limit room vs)
 
@@ -91,21 +94,30 @@ noneShort (r ∷ rs) = eqb (r .held) (r .declared) && noneShort rs
 abbrev pub wholeOf : Answer → List Span → Bool
 wholeOf answer rows = eqb (numberOf answer) 0 && noneShort rows
 
-abbrev pub listingOf : Head → Shown → Listing
-listingOf head s =
+-- what stands where the top region stops
+abbrev pub topStands : List ℕ → List ℕ → Standing
+topStands rules bytes = standsAt 0 (allTries rules bytes)
+
+-- the answer of what is shown
+abbrev pub answerShown : Standing → Shown → Answer
+answerShown standing s = answerOf (s .cut) (length (s .rows)) (stopOf standing) (badTypeOf standing)
+
+abbrev pub listingOf : Standing → Shown → Listing
+listingOf standing s =
     record {
-      answer = answerOf (s .cut) (length (s .rows)) head;
+      answer = answerShown standing s;
       rows = length (s .rows);
       tries = s .tries;
-      whole = wholeOf (answerOf (s .cut) (length (s .rows)) head) (s .rows);
+      whole = wholeOf (answerShown standing s) (s .rows);
+      stop = stopOf (standingTold (s .cut) standing);
     }
 
 abbrev pub refusal : Answer → Listing
-refusal answer = record { answer = answer; rows = 0; tries = 0; whole = false }
+refusal answer = record { answer = answer; rows = 0; tries = 0; whole = false; stop = Stop.Untold }
 
 -- the table with the rows laid at its start, and the listing
 abbrev pub showing : List ℕ → List ℕ → List ℕ → Shown → List ℕ × Listing
-showing rules bytes t s = (laid (s .rows) t, listingOf (headOf rules bytes) s)
+showing rules bytes t s = (laid (s .rows) t, listingOf (topStands rules bytes) s)
 
 -- the table and the listing at the end, where nothing is refused
 unfoldable pub walked : List ℕ → List ℕ → ℕ → List ℕ → List ℕ × Listing

@@ -2,12 +2,12 @@
 ghost use mathlib.Core.Path.{_≡_};
 ghost use Prim.Native.Nat.{_*_, _≤_, _<_};
 ghost use lib.ListN.{length};
-ghost use Rattle.header_judge.specs.Head.{headOf};
 ghost use Rattle.region_rows.specs.Rows.{width};
-ghost use Rattle.region.specs.Listing.{numberOf, typeOf, answerFirst, answerOf, refusal, listed};
+ghost use Rattle.region.specs.Listing.{numberOf, typeOf, answerWithout, answerOf, refusal, listed};
 use answers::MOST_BYTES;
 use region_rows::TOP;
 use region_try::Cut;
+use region_try::stop::Stop;
 use region_walk::DEEPEST;
 
 // What a listing answers.
@@ -22,36 +22,41 @@ pub enum Answer {
     TriesSpent,
 }
 
+// The answer, the rows written, the tries made, whether all is whole, and why the top region stopped.
 pub struct Listing {
     pub answer: Answer,
     pub rows: u32,
     pub tries: u64,
     pub whole: bool,
+    pub stop: Stop,
 }
 
-// The answer where the first header is no record.
-fn answer_first(region: &[u8], rules: &[u32]) -> Answer
-    ensures { λ r. ⌜ r ≡ answerFirst (headOf (now (rules .entry)) (now (region .entry))) ⌝ }
+// The answer where the region stops without a record.
+fn answer_without(stop: Stop, bad_type: u32) -> Answer
+    ensures { λ r. ⌜ r ≡ answerWithout stop «bad_type» ⌝ }
 {
-    let head = header_judge::judge(region, rules);
-    match head {
-        header_judge::Head::Ended => Answer::Empty,
-        header_judge::Head::BadHeader => Answer::BadHeader,
-        header_judge::Head::BadType(t) => Answer::BadType(t),
-        header_judge::Head::Record { .. } => Answer::Empty,
+    match stop {
+        Stop::Untold => Answer::Empty,
+        Stop::EndOfInput => Answer::Empty,
+        Stop::ZeroWord => Answer::Empty,
+        Stop::DeadbeefWord => Answer::Empty,
+        Stop::FewBytes => Answer::Empty,
+        Stop::BadHeader => Answer::BadHeader,
+        Stop::BadType => Answer::BadType(bad_type),
+        Stop::SizeZero => Answer::Empty,
     }
 }
 
 // The answer of a walk.
-fn answer_of(region: &[u8], rules: &[u32], cut: Cut, rows: u32) -> Answer
-    ensures { λ r. ⌜ r ≡ answerOf cut rows (headOf (now (rules .entry)) (now (region .entry))) ⌝ }
+fn answer_of(cut: Cut, rows: u32, stop: Stop, bad_type: u32) -> Answer
+    ensures { λ r. ⌜ r ≡ answerOf cut rows stop «bad_type» ⌝ }
 {
     match cut {
         Cut::Full => Answer::SpansFull,
         Cut::Spent => Answer::TriesSpent,
         Cut::Going => {
             if rows == 0 {
-                return answer_first(region, rules);
+                return answer_without(stop, bad_type);
             }
             Answer::Done
         }
@@ -99,6 +104,7 @@ pub fn refused(answer: Answer) -> Listing
         rows: 0,
         tries: 0,
         whole: false,
+        stop: Stop::Untold,
     }
 }
 
@@ -129,11 +135,13 @@ pub fn list(region: &[u8], rules: &[u32], limit: u64, spans: &mut [u32]) -> List
         spans,
     );
     let cut = end.cut;
-    let answer = answer_of(region, rules, cut, end.rows);
+    let stop = end.stop;
+    let answer = answer_of(cut, end.rows, stop, end.bad_type);
     Listing {
         answer: answer,
         rows: end.rows,
         tries: end.tries,
         whole: (number_of(answer) == answers::DONE) & end.whole,
+        stop: stop,
     }
 }

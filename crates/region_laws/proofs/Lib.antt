@@ -3,3 +3,4 @@ pub mod Positions
 pub mod Bounds
 pub mod Limits
 pub mod Refusals
+pub mod Reach

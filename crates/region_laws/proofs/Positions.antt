@@ -38,7 +38,7 @@ module _ (rules : List ℕ) where
         → ((k m : ℕ) → offsets (rest k m) ≡ after k)
         → offsets (onward box bs n (tryOf level parent offset (length bs) head) rest) ≡ offset ∷ following inside bs offset head after
     unfolding onward tryOf following
-    onward-at level parent offset bs n Ended rest after e = refl
+    onward-at level parent offset bs n (Ended ending) rest after e = refl
     onward-at level parent offset bs n BadHeader rest after e = refl
     onward-at level parent offset bs n (BadType t) rest after e = refl
     onward-at level parent offset bs n (Record word flags declared size) rest after e = by (eqb declared 0)
@@ -50,7 +50,7 @@ module _ (rules : List ℕ) where
         tries = within box (take declared bs) row n
 
         by : (b : Bool)
-            → offsets (onward box bs n (cond b (none offset (Record word flags declared size)) (hit row)) rest)
+            → offsets (onward box bs n (cond b (none level offset (Record word flags declared size)) (hit row)) rest)
             ≡ offset ∷ cond b [] (cond (isBox word flags) (inside (take declared bs) offset size) [] ++ after (declared - 1))
         by true = refl
         by false =

@@ -7,15 +7,15 @@ use Prim.Native.Nat.{ℕ, zero, suc, _≤_, _<_, min}
 use native.Mathlib.Omega.{arith}
 use native.Mathlib.Nat.{eq-zero-or-pos}
 use lib.ListN.{length}
-use Rattle.header_judge.specs.Version.{wordOf}
-use Rattle.header_judge.specs.Head.{headWith, headOf}
-use Rattle.header_judge.specs.declared.Head.{Head}
-use Rattle.header_judge.specs.declared.Head.the-variants.{Ended}
+use Rattle.header_judge.specs.Head.{headOf}
 use Rattle.region_rows.specs.Rows.{top, capacity}
-use Rattle.region_try.specs.Tries.{Try, none, hit, tryOf, deepest, Inside, onward, records, boxTries, regionTries, allTries}
-use Rattle.region.specs.Listing.{numberOf, answerOf, shown, walked, listed}
+use Rattle.region_try.specs.Stops.{noByte, stopOf, badTypeOf}
+use Rattle.region_try.specs.Tries.{Try, none, hit, tryOf, deepest, standsAt, Inside, onward, records, boxTries, regionTries, allTries}
+use Rattle.region.specs.Listing.{numberOf, answerOf, topStands, shown, walked, listed}
 use Rattle.region_try.specs.declared.Cut.{Cut}
 use Rattle.region_try.specs.declared.Cut.the-variants.{Going, Full, Spent}
+use Rattle.region_try.specs.declared.stop.Stop.{Stop}
+use Rattle.region_try.specs.declared.stop.Stop.the-variants.{EndOfInput}
 use Rattle.region.specs.declared.Listing.{Listing}
 use Rattle.region_try.proofs.Runs.{spent-going, full-going}
 use Rattle.region.proofs.Shows.{listed-cases}
@@ -23,20 +23,20 @@ use Rattle.region_rows.proofs.Rows.{laid-none}
 use Rattle.region_laws.specs.Whole.{Alone}
 
 -- such an answer is that of a walk that found no row and was not cut off
-uncut : (cut : Cut) (n : ℕ) (head : Head) → 3 ≤ numberOf (answerOf cut n head) → numberOf (answerOf cut n head) ≤ 5 → (cut ≡ Going) × (n ≡ 0)
-uncut Full n head h g = absurd (omega arith)
-uncut Spent n head h g = absurd (omega arith)
-uncut Going zero head h g = (refl, refl)
-uncut Going (suc n) head h g = absurd (omega arith)
+uncut : (cut : Cut) (n : ℕ) (stop : Stop) (type : ℕ) → 3 ≤ numberOf (answerOf cut n stop type) → numberOf (answerOf cut n stop type) ≤ 5 → (cut ≡ Going) × (n ≡ 0)
+uncut Full n stop type h g = absurd (omega arith)
+uncut Spent n stop type h g = absurd (omega arith)
+uncut Going zero stop type h g = (refl, refl)
+uncut Going (suc n) stop type h g = absurd (omega arith)
 
 -- a walk that found no row and was not cut off made one try, if any
 onward-alone : (limit room : ℕ) (box : Inside) (bs : List ℕ) (n : ℕ) (v : Try) (rest : ℕ → ℕ → List Try)
     → shown limit room (onward box bs n v rest) .cut ≡ Going → length (shown limit room (onward box bs n v rest) .rows) ≡ 0
     → shown limit room (onward box bs n v rest) .tries ≡ 1
 unfolding shown onward
-onward-alone zero room box bs n (none o head) rest e f = absurd (spent-going e)
+onward-alone zero room box bs n (none l o head) rest e f = absurd (spent-going e)
 onward-alone zero room box bs n (hit r) rest e f = absurd (spent-going e)
-onward-alone (suc limit) room box bs n (none o head) rest e f = refl
+onward-alone (suc limit) room box bs n (none l o head) rest e f = refl
 onward-alone (suc limit) zero box bs n (hit r) rest e f = absurd (full-going e)
 onward-alone (suc limit) (suc room) box bs n (hit r) rest e f = absurd (omega arith)
 
@@ -49,17 +49,17 @@ tries-alone rules limit room (b ∷ bs) e f =
     onward-alone limit room (boxTries rules deepest) (b ∷ bs) 0 (tryOf 0 top 0 (length (b ∷ bs)) (headOf rules (b ∷ bs))) (λ skip m. records rules (boxTries rules deepest) deepest top skip bs 1 m) e f
     ∙ omega arith
 
--- no bytes are ended, which answers 5
-no-bytes : (rules bytes : List ℕ) → length bytes ≡ 0 → headOf rules bytes ≡ Ended
-unfolding headOf headWith wordOf
+-- no bytes are the end of the input, which answers 5
+no-bytes : (rules bytes : List ℕ) → length bytes ≡ 0 → topStands rules bytes ≡ noByte
+unfolding allTries regionTries records standsAt
 no-bytes rules [] e = refl
 no-bytes rules (b ∷ bs) e = absurd (omega arith)
 
-ended-five : (cut : Cut) (n : ℕ) → 3 ≤ numberOf (answerOf cut n Ended) → numberOf (answerOf cut n Ended) ≤ 5 → numberOf (answerOf cut n Ended) ≡ 5
-ended-five Full n h g = absurd (omega arith)
-ended-five Spent n h g = absurd (omega arith)
-ended-five Going zero h g = refl
-ended-five Going (suc n) h g = absurd (omega arith)
+empty-five : (cut : Cut) (n : ℕ) → 3 ≤ numberOf (answerOf cut n EndOfInput 0) → numberOf (answerOf cut n EndOfInput 0) ≤ 5 → numberOf (answerOf cut n EndOfInput 0) ≡ 5
+empty-five Full n h g = absurd (omega arith)
+empty-five Spent n h g = absurd (omega arith)
+empty-five Going zero h g = refl
+empty-five Going (suc n) h g = absurd (omega arith)
 
 module _ (rules bytes : List ℕ) (limit : ℕ) (t : List ℕ) where
   abbrev number : List ℕ × Listing → ℕ
@@ -73,7 +73,7 @@ module _ (rules bytes : List ℕ) (limit : ℕ) (t : List ℕ) where
       (λ h g. absurd (omega arith)) (λ h g. absurd (omega arith))
       (λ h g.
       let s = shown limit (capacity t) (allTries rules bytes) in
-      let q = uncut (s .cut) (length (s .rows)) (headOf rules bytes) h g in
+      let q = uncut (s .cut) (length (s .rows)) (stopOf (topStands rules bytes)) (badTypeOf (topStands rules bytes)) h g in
       record { table = laid-none (s .rows) t (q .1); rows = q .1; tries = tries-alone rules limit (capacity t) bytes (q .0) (q .1) })
 
   -- an empty region answers 5
@@ -83,7 +83,7 @@ module _ (rules bytes : List ℕ) (limit : ℕ) (t : List ℕ) where
       listed-cases (λ (x : List ℕ × Listing). 3 ≤ number x → number x ≤ 5 → number x ≡ 5) rules bytes limit t
       (λ h g. absurd (omega arith)) (λ h g. absurd (omega arith))
       (rw (no-bytes rules bytes e)
-      (ended-five (shown limit (capacity t) (allTries rules bytes) .cut) (length (shown limit (capacity t) (allTries rules bytes) .rows))))
+      (empty-five (shown limit (capacity t) (allTries rules bytes) .cut) (length (shown limit (capacity t) (allTries rules bytes) .rows))))
 
   -- 3 and 4 come with exactly one try
   pub bad-first-tries : 3 ≤ number (listed rules bytes limit t) → number (listed rules bytes limit t) ≤ 4 → listed rules bytes limit t .1 .tries ≡ 1

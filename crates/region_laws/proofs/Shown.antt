@@ -14,7 +14,7 @@ pub tries-le : (limit room : ℕ) (vs : List Try) → shown limit room vs .tries
 unfolding shown
 tries-le limit room [] = omega arith
 tries-le zero room (v ∷ vs) = omega arith
-tries-le (suc limit) room (none o head ∷ vs) = let h : shown limit room vs .tries ≤ length vs = tries-le limit room vs in omega arith
+tries-le (suc limit) room (none l o head ∷ vs) = let h : shown limit room vs .tries ≤ length vs = tries-le limit room vs in omega arith
 tries-le (suc limit) zero (hit r ∷ vs) = omega arith
 tries-le (suc limit) (suc room) (hit r ∷ vs) = let h : shown limit room vs .tries ≤ length vs = tries-le limit room vs in omega arith
 
@@ -22,7 +22,7 @@ pub tries-le-limit : (limit room : ℕ) (vs : List Try) → shown limit room vs 
 unfolding shown
 tries-le-limit limit room [] = omega arith
 tries-le-limit zero room (v ∷ vs) = omega arith
-tries-le-limit (suc limit) room (none o head ∷ vs) = let h : shown limit room vs .tries ≤ limit = tries-le-limit limit room vs in omega arith
+tries-le-limit (suc limit) room (none l o head ∷ vs) = let h : shown limit room vs .tries ≤ limit = tries-le-limit limit room vs in omega arith
 tries-le-limit (suc limit) zero (hit r ∷ vs) = omega arith
 tries-le-limit (suc limit) (suc room) (hit r ∷ vs) = let h : shown limit room vs .tries ≤ limit = tries-le-limit limit room vs in omega arith
 
@@ -35,7 +35,7 @@ rows-shown (suc limit) zero [] = refl
 rows-shown (suc limit) (suc room) [] = refl
 rows-shown zero zero (v ∷ vs) = refl
 rows-shown zero (suc room) (v ∷ vs) = refl
-rows-shown (suc limit) room (none o head ∷ vs) = rows-shown limit room vs
+rows-shown (suc limit) room (none l o head ∷ vs) = rows-shown limit room vs
 rows-shown (suc limit) zero (hit r ∷ vs) = refl
 rows-shown (suc limit) (suc room) (hit r ∷ vs) = ap (λ (rs : List Span). r ∷ rs) (rows-shown limit room vs)
 
@@ -45,7 +45,7 @@ pub all-shown : (limit room : ℕ) (vs : List Try) → length vs ≤ limit → l
 unfolding shown rowsFound
 all-shown limit room [] h g = refl
 all-shown zero room (v ∷ vs) h g = absurd (omega arith)
-all-shown (suc limit) room (none o head ∷ vs) h g = ap (λ (s : Shown). tried s) (all-shown limit room vs (omega arith) g)
+all-shown (suc limit) room (none l o head ∷ vs) h g = ap (λ (s : Shown). tried s) (all-shown limit room vs (omega arith) g)
 all-shown (suc limit) zero (hit r ∷ vs) h g = absurd (omega arith)
 all-shown (suc limit) (suc room) (hit r ∷ vs) h g = ap (λ (s : Shown). triedRow r s) (all-shown limit room vs (omega arith) (omega arith))
 
@@ -55,7 +55,7 @@ pub cut-shown : (limit room : ℕ) (vs : List Try) → limit < length vs → len
 unfolding shown rowsFound
 cut-shown limit room [] h g = absurd (omega arith)
 cut-shown zero room (v ∷ vs) h g = refl
-cut-shown (suc limit) room (none o head ∷ vs) h g = ap (λ (s : Shown). tried s) (cut-shown limit room vs (omega arith) g)
+cut-shown (suc limit) room (none l o head ∷ vs) h g = ap (λ (s : Shown). tried s) (cut-shown limit room vs (omega arith) g)
 cut-shown (suc limit) zero (hit r ∷ vs) h g = absurd (omega arith)
 cut-shown (suc limit) (suc room) (hit r ∷ vs) h g = ap (λ (s : Shown). triedRow r s) (cut-shown limit room vs (omega arith) (omega arith))
 
@@ -63,7 +63,7 @@ cut-shown (suc limit) (suc room) (hit r ∷ vs) h g = ap (λ (s : Shown). triedR
 pub rows-le : (vs : List Try) → length (rowsFound vs) ≤ length vs
 unfolding rowsFound
 rows-le [] = omega arith
-rows-le (none o head ∷ vs) = let h : length (rowsFound vs) ≤ length vs = rows-le vs in omega arith
+rows-le (none l o head ∷ vs) = let h : length (rowsFound vs) ≤ length vs = rows-le vs in omega arith
 rows-le (hit r ∷ vs) = let h : length (rowsFound vs) ≤ length vs = rows-le vs in omega arith
 
 -- the rows of the first tries begin those of all
@@ -71,5 +71,5 @@ pub rows-split : (limit : ℕ) (vs : List Try) → rowsFound vs ≡ rowsFound (t
 unfolding rowsFound
 rows-split zero vs = refl
 rows-split (suc limit) [] = refl
-rows-split (suc limit) (none o head ∷ vs) = rows-split limit vs
+rows-split (suc limit) (none l o head ∷ vs) = rows-split limit vs
 rows-split (suc limit) (hit r ∷ vs) = ap (λ (rs : List Span). r ∷ rs) (rows-split limit vs)

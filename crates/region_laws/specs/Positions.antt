@@ -11,7 +11,7 @@ use Rattle.region_try.specs.Tries.{Try, none, hit, deepest}
 
 -- where a try is made
 abbrev pub offsetOf : Try → ℕ
-offsetOf (none offset head) = offset
+offsetOf (none level offset head) = offset
 offsetOf (hit r) = r .offset
 
 -- the positions inside a Box: from its held bytes, its own position and its header's size
@@ -20,7 +20,7 @@ InsideAt = List ℕ → ℕ → ℕ → List ℕ
 
 -- the positions after a header's: none where the region stops; else those inside its record, and those of the rest
 unfoldable pub following : InsideAt → List ℕ → ℕ → Head → (ℕ → List ℕ) → List ℕ
-following box bytes at Ended rest = []
+following box bytes at (Ended ending) rest = []
 following box bytes at BadHeader rest = []
 following box bytes at (BadType t) rest = []
 following box bytes at (Record word flags declared size) rest =

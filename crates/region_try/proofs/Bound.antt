@@ -66,7 +66,7 @@ module _ (rules : List ℕ) (u : ℕ → ℕ) (q : Units rules u) where
       → ((k m : ℕ) → length (rest k m) ≤ suc l * u (length bs - suc k))
       → length (onward box bs n v rest) ≤ suc l * u (length bs)
   unfolding onward
-  few-onward l box few level parent offset bs n (none o head) rest p e f = at-least l (u (length bs)) (q .of-some (length bs) p)
+  few-onward l box few level parent offset bs n (none l₁ o head) rest p e f = at-least l (u (length bs)) (q .of-some (length bs) p)
   few-onward l box few level parent offset bs n (hit r) rest p e f =
       let w = hit-whence level parent offset (length bs) (headOf rules bs) r e in
       let d : suc (r .declared - 1) ≡ r .declared = let s : 0 < r .declared = w .some in omega arith in

@@ -1,46 +1,56 @@
--- The try of a header from the header's parts, as the code finds them.
+-- The try of a header from the header's parts, as the code finds them, and what a try says of its header.
 -- By the tests of the definition, in its order. Assumes nothing.
 use mathlib.Core.Path.{_≡_, refl}
 use mathlib.Core.List.{List}
 use mathlib.Core.Bool.{Bool, true, false, cond}
-use Prim.Native.Nat.{ℕ, zero, suc, _<_, _≤_, min}
+use Prim.Native.Nat.{ℕ, _<_, min}
 use native.Mathlib.Omega.{arith}
 use lib.Dec.{eqb}
 use lib.ListN.{length}
 use borrow.Author.Tests.{ne-eqb, eqb-false}
-use Rattle.header_judge.specs.Version.{noWord}
-use Rattle.header_judge.specs.Head.{lacking, sizeOf, declaredOf, headWith}
+use Rattle.header_judge.specs.Version.{noWord, endingOf, headerType}
+use Rattle.header_judge.specs.Head.{noSize, lacking, sizeOf, declaredOf}
 use Rattle.header_judge.specs.declared.Head.{Head}
 use Rattle.header_judge.specs.declared.Head.the-variants.{Ended, BadHeader, BadType, Record}
 use Rattle.header_judge.proofs.Heads.{head-ended, head-bad-type, head-bad-header, head-record}
 use Rattle.region_rows.specs.declared.Span.{Span}
+use Rattle.region_try.specs.Stops.{stopEnded, stopBy, badTypeBy}
 use Rattle.region_try.specs.Tries.{Try, spanOf, none, hit, tryOf}
 use Rattle.region_try.specs.Steps.{tryAt}
+use Rattle.region_try.specs.declared.stop.Stop as Stop
+use Rattle.region_try.specs.declared.stop.Stop.{Stop}
+
+-- a try that finds no record, the reason and the bad type that it gives
+pub record Stopped (v : Try) (stop : Stop) (type : ℕ) : Type 0 where
+  pub level : ℕ
+  pub offset : ℕ
+  pub head : Head
+  pub is : v ≡ none level offset head
+  pub why : stop ≡ stopBy head
+  pub bad : type ≡ badTypeBy head
+
+pub stopped : (level offset : ℕ) (head : Head) → Stopped (none level offset head) (stopBy head) (badTypeBy head)
+stopped level offset head = record { level = level; offset = offset; head = head; is = refl; why = refl; bad = refl }
 
 module _ (level parent offset : ℕ) (bs : List ℕ) (word flags : ℕ) where
   abbrev this : Try
   this = tryAt level parent offset bs word flags
 
-  -- what is no record
-  abbrev Stops : Type 0
-  Stops = this ≡ none offset (headWith bs word flags)
-
-  pub ended-stops : word ≡ noWord → Stops
+  pub ended-stops : word ≡ noWord → Stopped this (stopEnded (endingOf bs)) 0
   unfolding tryOf
-  ended-stops e = rw (head-ended bs word flags e)
+  ended-stops e = rw (head-ended bs word flags e) (stopped level offset (Ended (endingOf bs)))
 
-  pub sizeless-stops : (word ≡ noWord → ⊥) → sizeOf bs word flags ≤ lacking → Stops
+  pub bad-type-stops : (word ≡ noWord → ⊥) → sizeOf bs word flags ≡ noSize → Stopped this Stop.BadType (headerType word)
   unfolding tryOf
-  sizeless-stops f h = by (sizeOf bs word flags) refl h
-    where
-      by : (n : ℕ) → sizeOf bs word flags ≡ n → n ≤ 1 → Stops
-      by zero e h = rw (head-bad-type bs word flags f e)
-      by (suc zero) e h = rw (head-bad-header bs word flags f e)
-      by (suc (suc n)) e h = absurd (omega arith)
+  bad-type-stops f e = rw (head-bad-type bs word flags f e) (stopped level offset (BadType (headerType word)))
 
-  pub empty-stops : (word ≡ noWord → ⊥) → lacking < sizeOf bs word flags → declaredOf bs flags ≡ 0 → Stops
+  pub bad-header-stops : (word ≡ noWord → ⊥) → sizeOf bs word flags ≡ lacking → Stopped this Stop.BadHeader 0
   unfolding tryOf
-  empty-stops f h e = rw (head-record bs word flags f h, e)
+  bad-header-stops f e = rw (head-bad-header bs word flags f e) (stopped level offset BadHeader)
+
+  pub empty-stops : (word ≡ noWord → ⊥) → lacking < sizeOf bs word flags → declaredOf bs flags ≡ 0 → Stopped this Stop.SizeZero 0
+  unfolding tryOf
+  empty-stops f h e = rw (head-record bs word flags f h, e) (stopped level offset (Record word flags 0 (sizeOf bs word flags)))
 
   pub record-hit : (word ≡ noWord → ⊥) → lacking < sizeOf bs word flags → (declaredOf bs flags ≡ 0 → ⊥)
       → this ≡ hit (spanOf level parent offset (length bs) word flags (declaredOf bs flags) (sizeOf bs word flags))
@@ -56,16 +66,28 @@ pub record Whence (at left : ℕ) (head : Head) (r : Span) : Type 0 where
 
 pub hit-whence : (level parent offset left : ℕ) (head : Head) (r : Span) → tryOf level parent offset left head ≡ hit r → Whence offset left head r
 unfolding tryOf
-hit-whence level parent offset left Ended r e = absurd (let z : _≡_ {A = ℕ} 0 1 = cc in omega arith)
+hit-whence level parent offset left (Ended ending) r e = absurd (let z : _≡_ {A = ℕ} 0 1 = cc in omega arith)
 hit-whence level parent offset left BadHeader r e = absurd (let z : _≡_ {A = ℕ} 0 1 = cc in omega arith)
 hit-whence level parent offset left (BadType t) r e = absurd (let z : _≡_ {A = ℕ} 0 1 = cc in omega arith)
 hit-whence level parent offset left (Record word flags declared size) r e = by (eqb declared 0) refl e
   where
     by : (b : Bool) → eqb declared 0 ≡ b
-        → cond b (none offset (Record word flags declared size)) (hit (spanOf level parent offset left word flags declared size)) ≡ hit r
+        → cond b (none level offset (Record word flags declared size)) (hit (spanOf level parent offset left word flags declared size)) ≡ hit r
         → Whence offset left (Record word flags declared size) r
     by true k e = absurd (let z : _≡_ {A = ℕ} 0 1 = cc in omega arith)
     by false k e =
         let q : spanOf level parent offset left word flags declared size ≡ r = cc in
         let d : declared ≡ 0 → ⊥ = eqb-false declared 0 k in
         rw (← q) (record { is = refl; offset = refl; some = omega arith; held = refl })
+
+-- a try without a record has the level of its region
+pub none-level : (level parent offset left : ℕ) (head : Head) {l o : ℕ} {h : Head} → tryOf level parent offset left head ≡ none l o h → l ≡ level
+unfolding tryOf
+none-level level parent offset left (Ended ending) e = cc
+none-level level parent offset left BadHeader e = cc
+none-level level parent offset left (BadType t) e = cc
+none-level level parent offset left (Record word flags declared size) e = by (eqb declared 0) e
+  where
+    by : (b : Bool) {l o : ℕ} {h : Head} → cond b (none level offset (Record word flags declared size)) (hit (spanOf level parent offset left word flags declared size)) ≡ none l o h → l ≡ level
+    by true e = cc
+    by false e = absurd (let z : _≡_ {A = ℕ} 0 1 = cc in omega arith)

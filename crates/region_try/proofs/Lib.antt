@@ -3,3 +3,4 @@ pub mod Finds
 pub mod Tries
 pub mod Runs
 pub mod Bound
+pub mod Stops

@@ -100,7 +100,7 @@ module _ (limit room : ℕ) where
           → Adds v (m .1) (cond {A = Walk} b (m .0, state (m .1 .rows) (m .1 .tries) (m .1 .whole) Spent)
           (found room (m .1 .rows) v (m .0) .0, counted (m .1 .rows) (m .1 .tries + 1) (m .1 .whole) (found room (m .1 .rows) v (m .0) .1)) .1)
       made true v e = absurd (spent-going e)
-      made false (none o head) e = omega arith
+      made false (none l o head) e = omega arith
       made false (hit r) e = room-left r (leb room (m .1 .rows)) e
 
       by : (cut : Cut) → m .1 .cut ≡ cut → (v : Try)
@@ -111,7 +111,7 @@ module _ (limit room : ℕ) where
 
   rows-cons : (v : Try) (vs : List Try) → length (rowsFound (v ∷ vs)) ≡ length (rowsFound (v ∷ [])) + length (rowsFound vs)
   unfolding rowsFound
-  rows-cons (none o head) vs = omega arith
+  rows-cons (none l o head) vs = omega arith
   rows-cons (hit r) vs = omega arith
 
   pub run-rows : (vs : List Try) (m : Walk) → run limit room vs m .1 .cut ≡ Going → run limit room vs m .1 .rows ≡ m .1 .rows + length (rowsFound vs)

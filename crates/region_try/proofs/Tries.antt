@@ -38,14 +38,14 @@ module _ (rules : List ℕ) (box : Inside) (levels parent : ℕ) where
   records-first (b ∷ bs) offset n h = by (first (b ∷ bs) offset)
     where
       by : (v : Try) → (vs : List Try) × (onward box (b ∷ bs) n v (λ k m. records rules box levels parent k bs (offset + 1) m) ≡ v ∷ vs)
-      by (none o head) = ([], refl)
+      by (none l o head) = ([], refl)
       by (hit r) = (_, refl)
 
-  pub records-stop : (bs : List ℕ) (offset n : ℕ) (o : ℕ) (head : Head) → 0 < length bs → first bs offset ≡ none o head
+  pub records-stop : (bs : List ℕ) (offset n : ℕ) {l o : ℕ} {head : Head} → 0 < length bs → first bs offset ≡ none l o head
       → records rules box levels parent 0 bs offset n ≡ first bs offset ∷ []
   unfolding records onward
-  records-stop [] offset n o head h e = absurd (omega arith)
-  records-stop (b ∷ bs) offset n o head h e = rw e
+  records-stop [] offset n h e = absurd (omega arith)
+  records-stop (b ∷ bs) offset n h e = rw e
 
   pub records-hit : (bs : List ℕ) (offset n : ℕ) (r : Span) → 0 < length bs → first bs offset ≡ hit r → 0 < r .declared
       → records rules box levels parent 0 bs offset n

@@ -4,11 +4,14 @@ use mathlib.Core.List.{List, [], _∷_}
 use mathlib.Core.Bool.{Bool, cond, _&&_}
 use lib.Dec.{eqb, leb}
 use lib.ListN.{length}
-use Rattle.header_judge.specs.Head.{isBox, headWith}
+use Rattle.header_judge.specs.Version.{headerType}
+use Rattle.header_judge.specs.Head.{noSize, isBox, headWith}
 use Rattle.region_rows.specs.Rows.{withSpan}
+use Rattle.region_try.specs.Stops.{stopBy, badTypeBy}
 use Rattle.region_try.specs.Tries.{Try, none, hit, tryOf}
 use Rattle.region_try.specs.declared.Cut.{Cut}
 use Rattle.region_try.specs.declared.Cut.the-variants.{Going, Full, Spent}
+use Rattle.region_try.specs.declared.stop.Stop.the-variants.{BadHeader, BadType}
 use Rattle.region_try.specs.declared.State.{State}
 use Rattle.region_try.specs.declared.Found.{Found}
 use Rattle.region_try.specs.declared.Found.the-variants.{Nothing, NoRoom, Row}
@@ -21,20 +24,24 @@ Walk = List ℕ × State
 abbrev pub state : ℕ → ℕ → Bool → Cut → State
 state rows tries whole cut = record { rows = rows; tries = tries; whole = whole; cut = cut }
 
+-- what is found where a header has no size
+abbrev pub sizeless : ℕ → ℕ → Found
+sizeless word size = cond (eqb size noSize) (Nothing BadType (headerType word)) (Nothing BadHeader 0)
+
 -- the try of the header at the start of some bytes, whose word and flags are known
 abbrev pub tryAt : ℕ → ℕ → ℕ → List ℕ → ℕ → ℕ → Try
 tryAt level parent offset bytes word flags = tryOf level parent offset (length bytes) (headWith bytes word flags)
 
 -- the table after a try, and what it finds; a record needs a free row
 unfoldable pub found : ℕ → ℕ → Try → List ℕ → List ℕ × Found
-found room rows (none offset head) t = (t, Nothing)
+found room rows (none level offset head) t = (t, Nothing (stopBy head) (badTypeBy head))
 found room rows (hit r) t =
     cond (leb room rows) (t, NoRoom)
     (withSpan t rows r, Row (r .held) (r .declared) (r .size) (isBox (r .word) (r .flags)))
 
 -- the counts after a try; `whole` stays while rows hold what they declare
 abbrev pub counted : ℕ → ℕ → Bool → Found → State
-counted rows tries whole Nothing = state rows tries whole Going
+counted rows tries whole (Nothing stop type) = state rows tries whole Going
 counted rows tries whole NoRoom = state rows tries whole Full
 counted rows tries whole (Row held declared size boxed) = state (rows + 1) tries (whole && eqb held declared) Going
 
@@ -61,6 +68,6 @@ run limit room (v ∷ vs) m = run limit room vs (step limit room v m)
 
 -- the bounds of a record's sizes
 abbrev pub RowBounds : Found → Type 0
-RowBounds Nothing = Unit {0}
+RowBounds (Nothing stop type) = Unit {0}
 RowBounds NoRoom = Unit {0}
 RowBounds (Row held declared size boxed) = (0 < declared) × (declared ≤ 524280) × (0 < size) × (size ≤ 536)

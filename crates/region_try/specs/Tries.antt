@@ -1,4 +1,4 @@
--- The nested walk as the list of its tries, with no limit and no table (document 01, 'The nested listing').
+-- The nested walk as the list of its tries, with no limit and no table (document 01, 'The nested listing'), and what stands where a region in it stops.
 use Prim.Native.Nat.{ℕ, zero, suc, _+_, _-_, min}
 use mathlib.Core.List.{List, [], _∷_, _++_}
 use mathlib.Core.Bool.{cond}
@@ -9,12 +9,13 @@ use Rattle.region_rows.specs.Rows.{top}
 use Rattle.header_judge.specs.declared.Head.{Head}
 use Rattle.header_judge.specs.declared.Head.the-variants.{Ended, BadHeader, BadType, Record}
 use Rattle.header_judge.specs.Head.{isBox, headOf}
+use Rattle.region_try.specs.Stops.{Standing, noByte, header}
 
 -- ---- one try
 
--- a try: where it finds no record, its offset and the header; else the row of the record
+-- a try: where it finds no record, its region's level, its offset and the header that stands there; else the row of the record
 pub data Try : Type 0 where
-  none : ℕ → Head → Try
+  none : ℕ → ℕ → Head → Try
   hit : Span → Try
 
 -- how deep Boxes are opened
@@ -28,17 +29,23 @@ spanOf level parent offset left word flags declared size =
 
 -- the try at an offset where a header stands: ended, bad and declared size 0 are no record
 unfoldable pub tryOf : ℕ → ℕ → ℕ → ℕ → Head → Try
-tryOf level parent offset left Ended = none offset Ended
-tryOf level parent offset left BadHeader = none offset BadHeader
-tryOf level parent offset left (BadType t) = none offset (BadType t)
+tryOf level parent offset left (Ended ending) = none level offset (Ended ending)
+tryOf level parent offset left BadHeader = none level offset BadHeader
+tryOf level parent offset left (BadType t) = none level offset (BadType t)
 tryOf level parent offset left (Record word flags declared size) =
-    cond (eqb declared 0) (none offset (Record word flags declared size)) (hit (spanOf level parent offset left word flags declared size))
+    cond (eqb declared 0) (none level offset (Record word flags declared size)) (hit (spanOf level parent offset left word flags declared size))
 
 -- the rows that some tries find
 unfoldable pub rowsFound : List Try → List Span
 rowsFound [] = []
-rowsFound (none offset head ∷ vs) = rowsFound vs
+rowsFound (none level offset head ∷ vs) = rowsFound vs
 rowsFound (hit r ∷ vs) = r ∷ rowsFound vs
+
+-- what stands where a region of a level stops, by its tries and those inside its Boxes: the header of its own try that finds no record; else no byte
+unfoldable pub standsAt : ℕ → List Try → Standing
+standsAt l [] = noByte
+standsAt l (none level offset head ∷ vs) = cond (eqb level l) (header head) (standsAt l vs)
+standsAt l (hit r ∷ vs) = standsAt l vs
 
 -- ---- the tries of a region
 
@@ -53,7 +60,7 @@ within box held r row = cond (isBox (r .word) (r .flags)) (box held (r .offset) 
 -- the tries from one on, where n rows stand before it: where it finds no record, the region stops; else those inside the record,
 -- and the rest, which is given the bytes to skip after this one and the rows before it
 unfoldable pub onward : Inside → List ℕ → ℕ → Try → (ℕ → ℕ → List Try) → List Try
-onward box bytes n (none offset head) rest = none offset head ∷ []
+onward box bytes n (none level offset head) rest = none level offset head ∷ []
 onward box bytes n (hit r) rest =
     hit r
     ∷ (within box (take (r .declared) bytes) r n

@@ -1,12 +1,19 @@
-// One try: the header at a place is judged, and a record's row is written where one is free.
+// One try: the header at a place is judged, and a record's row is written where one is free. Where no record is, the region stops.
 ghost use mathlib.Core.Path.{_≡_};
 ghost use Prim.Native.Nat.{_*_, _≤_, _<_, _^_};
 ghost use lib.ListN.{length};
 ghost use Rattle.region_rows.specs.Rows.{width};
-ghost use Rattle.region_try.specs.Steps.{tryAt, found, RowBounds};
+ghost use Rattle.region_try.specs.Steps.{sizeless, tryAt, found, RowBounds};
+
+pub mod stop;
+
 use header_judge::LACKING;
+use header_judge::NO_SIZE;
 use header_judge::version::NO_WORD;
+use header_judge::version::ending_of;
 use region_rows::Span;
+use stop::Stop;
+use stop::stop_ended;
 
 // What cut a walk off, if anything did.
 pub enum Cut {
@@ -23,9 +30,12 @@ pub struct State {
     pub cut: Cut,
 }
 
-// What one try gives: no record, or one for which no row is free, or one whose row is written.
+// What one try gives: no record, so that the region stops, or one for which no row is free, or one whose row is written.
 pub enum Found {
-    Nothing,
+    Nothing {
+        stop: Stop,
+        bad_type: u32,
+    },
     NoRoom,
     Row {
         held: usize,
@@ -33,6 +43,22 @@ pub enum Found {
         size: usize,
         boxed: bool,
     },
+}
+
+// A header that has no size: its type is bad, or bytes are lacking.
+fn sizeless(word: u32, size: usize) -> Found
+    ensures { λ r. ⌜ r ≡ sizeless word size ⌝ }
+{
+    if size == NO_SIZE {
+        return Found::Nothing {
+            stop: Stop::BadType,
+            bad_type: word / 256 % 16,
+        };
+    }
+    Found::Nothing {
+        stop: Stop::BadHeader,
+        bad_type: 0,
+    }
 }
 
 // One try, where the header's word and flags are known: the header is judged first, then the room for its row.
@@ -52,15 +78,21 @@ pub fn try_at(
     ensures { λ r. ⌜ RowBounds r ⌝ }
 {
     if word == NO_WORD {
-        return Found::Nothing;
+        return Found::Nothing {
+            stop: stop_ended(ending_of(bytes)),
+            bad_type: 0,
+        };
     }
     let size = header_judge::size_of(bytes, word, flags);
     if size <= LACKING {
-        return Found::Nothing;
+        return sizeless(word, size);
     }
     let declared = header_judge::declared_of(bytes, flags);
     if declared == 0 {
-        return Found::Nothing;
+        return Found::Nothing {
+            stop: Stop::SizeZero,
+            bad_type: 0,
+        };
     }
     if room <= rows {
         return Found::NoRoom;

@@ -1,7 +1,7 @@
 -- One turn of the region walk's loop: what is left of the region, run from here, ends as it does when run from the next position.
 -- By the try that the turn makes, and for a Box by the run of its child. Assumes nothing.
-use mathlib.Core.Path.{_≡_, refl, ap, sym, _∙_, subst}
-use mathlib.Core.List.{List, [], _∷_}
+use mathlib.Core.Path.{_≡_, refl, ap, ap₂, sym, _∙_, subst}
+use mathlib.Core.List.{List, [], _∷_, _++_}
 use mathlib.Core.Bool.{Bool, true, false, _&&_}
 use mathlib.Core.Logic.{_⊎_, ⊎-elim}
 use Prim.Native.Nat.{min, ℕ, _+_, _-_, _≤_, _<_, _^_}
@@ -19,18 +19,24 @@ use Rattle.header_judge.specs.Version.{noWord, wordOf}
 use Rattle.header_judge.specs.Head.{headWith, headOf}
 use Rattle.region_try.proofs.Cut.{the-type as cut-type}
 use Rattle.region_rows.specs.declared.Span.{Span}
+use Rattle.region_try.specs.Stops.{Standing, unknown, noByte, standingTold}
 use Rattle.region_try.specs.Tries.{Try, hit, tryOf, deepest, rowsFound, within, records, boxTries, regionTries}
 use Rattle.region_try.specs.Steps.{Walk, state, tryAt, found, counted, step, run, RowBounds}
 use Rattle.region_try.specs.declared.Cut.{Cut}
 use Rattle.region_try.specs.declared.Cut.the-variants.{Going, Full, Spent}
+use Rattle.region_try.specs.declared.stop.Stop.{Stop}
+use Rattle.region_try.specs.declared.stop.Stop.the-variants.{Untold}
 use Rattle.region_try.specs.declared.State.{State}
 use Rattle.region_try.specs.declared.Found.{Found}
 use Rattle.region_try.specs.declared.Found.the-variants.{Nothing, NoRoom, Row}
 use Rattle.header_judge.proofs.Heads.{head-known}
 use Rattle.region_try.proofs.Heads.{Whence, hit-whence}
 use Rattle.region_try.proofs.Finds.{Hit, found-nothing, found-row}
-use Rattle.region_try.proofs.Tries.{records-end, records-first, records-stop, records-hit, within-plain, within-box}
+use Rattle.region_try.proofs.Tries.{records-end, records-first, records-stop, records-hit, within-plain, within-box, box-open}
+use Rattle.region_try.proofs.Stops.{stands-none, stands-hit, stands-here, past-within, past-box}
 use Rattle.region_try.proofs.Runs.{spent-going, full-going, step-spent, step-made, run-none, run-cons, run-append, run-cut, run-rows}
+use Rattle.region_walk.specs.Steps.{walked, endedAt, ended, standsIn, regionEnd}
+use Rattle.region_walk.specs.declared.Walked.{Walked}
 
 -- ---- parts of a list
 
@@ -55,6 +61,30 @@ held-fits bs base at k h g =
     let a : length (take k (drop at bs)) ≡ min k (length (drop at bs)) = length-take k (drop at bs) in
     let b : length (drop at bs) ≡ length bs - at = length-drop at bs in
     omega arith
+
+-- ---- a walk that is cut off
+
+-- its end, of which nothing is told
+abbrev cutOff : Walk → List ℕ × Walked
+cutOff m = endedAt unknown m
+
+cut-unknown : (cut : Cut) (standing : Standing) → (cut ≡ Going → ⊥) → standingTold cut standing ≡ unknown
+cut-unknown Going standing f = absurd (f refl)
+cut-unknown Full standing f = refl
+cut-unknown Spent standing f = refl
+
+ended-cut : (standing : Standing) (m : Walk) → (m .1 .cut ≡ Going → ⊥) → ended standing m ≡ cutOff m
+ended-cut standing m f = ap (λ (s : Standing). endedAt s m) (cut-unknown (m .1 .cut) standing f)
+
+-- ---- a Box that is opened
+
+-- the counts of its child's walk are those of the tries inside it
+pub child-counts : (rules : List ℕ) (limit room levels : ℕ) (held : List ℕ) (base size row : ℕ) (m : Walk) → 0 < levels → size ≤ length held
+    → {t : List ℕ} {w : Walked} → _≡_ {A = List ℕ × Walked} (t, w) (regionEnd limit room (levels - 1) (regionTries rules (levels - 1) (drop size held) (base + size) row (row + 1)) m)
+    → _≡_ {A = Walk} (t, state (w .rows) (w .tries) (w .whole) (w .cut)) (run limit room (boxTries rules levels held base size row) m)
+child-counts rules limit room levels held base size row m p h e =
+    rw (box-open rules levels held base size row p h)
+    (ap (λ (x : List ℕ × Walked). (x .0, state (x .1 .rows) (x .1 .tries) (x .1 .whole) (x .1 .cut))) e)
 
 -- ---- the region from a position on
 
@@ -88,13 +118,21 @@ module _ (p : Place) where
   abbrev pub runs : List Try → Walk → Walk
   runs vs m = run (p .limit) (p .room) vs m
 
+  -- some tries, run, as the end of this region's walk
+  abbrev ends : List Try → Walk → List ℕ × Walked
+  ends vs m = regionEnd (p .limit) (p .room) (p .levels) vs m
+
+  -- what stands where the region stops, by its tries from somewhere on
+  abbrev stands : List Try → Standing
+  stands vs = standsIn (p .levels) vs
+
   -- the region run from a position on
-  abbrev pub rest : ℕ → List ℕ → ℕ → ℕ → Bool → Walk
-  rest at t rows tries whole = runs (outer at rows) (t, state rows tries whole Going)
+  abbrev pub rest : ℕ → List ℕ → ℕ → ℕ → Bool → List ℕ × Walked
+  rest at t rows tries whole = ends (outer at rows) (t, state rows tries whole Going)
 
   -- the whole region
-  abbrev pub entire : List ℕ → ℕ → ℕ → Bool → Walk
-  entire t rows tries whole = runs (regionTries (p .rules) (p .levels) (p .bytes) (p .base) (p .parent) rows) (t, state rows tries whole Going)
+  abbrev pub entire : List ℕ → ℕ → ℕ → Bool → List ℕ × Walked
+  entire t rows tries whole = ends (regionTries (p .rules) (p .levels) (p .bytes) (p .base) (p .parent) rows) (t, state rows tries whole Going)
 
   pub rest-start : (t : List ℕ) (rows tries : ℕ) (whole : Bool) → entire t rows tries whole ≡ rest 0 t rows tries whole
   unfolding regionTries
@@ -109,38 +147,57 @@ module _ (p : Place) where
     abbrev here : Walk
     here = (t, state rows tries whole Going)
 
-    pub rest-end : length (p .bytes) ≤ at → rest at t rows tries whole ≡ here
+    pub rest-end : length (p .bytes) ≤ at → rest at t rows tries whole ≡ ended noByte here
     rest-end h =
-        ap (λ (vs : List Try). runs vs here)
+        ap (λ (vs : List Try). ends vs here)
         (records-end (p .rules) (boxTries (p .rules) (p .levels)) (p .levels) (p .parent) (left at) (p .base + at) rows (simp length-drop (omega arith)))
-        ∙ run-none (p .limit) (p .room) here
+        ∙ ap₂ ended (stands-none _) (run-none (p .limit) (p .room) here)
 
     -- the first try of what is left, and the others
     ahead : at < length (p .bytes) → (vs : List Try) × (outer at rows ≡ tryFrom at ∷ vs)
     ahead h = records-first (p .rules) (boxTries (p .rules) (p .levels)) (p .levels) (p .parent) (left at) (p .base + at) rows (simp length-drop (omega arith))
 
     -- a try that cuts the walk off
-    rest-cut : at < length (p .bytes) → (m : Walk) → step (p .limit) (p .room) (tryFrom at) here ≡ m → (m .1 .cut ≡ Going → ⊥) → rest at t rows tries whole ≡ m
+    rest-cut : at < length (p .bytes) → (m : Walk) → step (p .limit) (p .room) (tryFrom at) here ≡ m → (m .1 .cut ≡ Going → ⊥) → rest at t rows tries whole ≡ cutOff m
     rest-cut h m e f =
         let a = ahead h in
-        ap (λ (vs : List Try). runs vs here) (a .1)
-        ∙ run-cons (p .limit) (p .room) (tryFrom at) (a .0) here
+        ap (λ (vs : List Try). ends vs here) (a .1)
+        ∙ ap (ended (stands (tryFrom at ∷ a .0)))
+        (run-cons (p .limit) (p .room) (tryFrom at) (a .0) here
         ∙ ap (λ (k : Walk). runs (a .0) k) e
-        ∙ run-cut (p .limit) (p .room) (a .0) m f
+        ∙ run-cut (p .limit) (p .room) (a .0) m f)
+        ∙ ended-cut (stands (tryFrom at ∷ a .0)) m f
 
-    pub rest-spent : at < length (p .bytes) → p .limit ≤ tries → rest at t rows tries whole ≡ (t, state rows tries whole Spent)
+    pub rest-spent : at < length (p .bytes) → p .limit ≤ tries → rest at t rows tries whole ≡ (t, walked rows tries whole Spent Untold 0)
     rest-spent h g = rest-cut h (t, state rows tries whole Spent) (step-spent (p .limit) (p .room) (tryFrom at) t rows tries whole g) spent-going
 
     -- a record: its try gives m₁, and what stands inside it m₂
-    module _ (h : at < length (p .bytes)) (r : Span) (is : tryFrom at ≡ hit r) (some : 0 < r .declared) (m₁ m₂ : Walk)
+    module _ (deep : p .levels ≤ deepest) (h : at < length (p .bytes)) (r : Span) (is : tryFrom at ≡ hit r) (some : 0 < r .declared) (m₁ m₂ : Walk)
         (made : step (p .limit) (p .room) (tryFrom at) here ≡ m₁) (ins : m₂ ≡ runs (inner at r rows) m₁) where
-      rest-record : rest at t rows tries whole ≡ runs (outer (at + r .declared) (rows + 1 + length (rowsFound (inner at r rows)))) m₂
-      rest-record =
+      -- the tries after it
+      abbrev after : List Try
+      after = outer (at + r .declared) (rows + 1 + length (rowsFound (inner at r rows)))
+
+      parted : outer at rows ≡ tryFrom at ∷ (inner at r rows ++ after)
+      parted =
           let o : p .base + at + r .declared ≡ p .base + (at + r .declared) = omega arith in
-          ap (λ (vs : List Try). runs vs here)
-          (records-hit (p .rules) (boxTries (p .rules) (p .levels)) (p .levels) (p .parent) (left at) (p .base + at) rows r (simp length-drop (omega arith)) is some)
-          ∙ run-cons (p .limit) (p .room) (tryFrom at) _ here
-          ∙ rw (made, drop-drop, o) (run-append (p .limit) (p .room) (inner at r rows) _ m₁ ∙ rw (← ins))
+          records-hit (p .rules) (boxTries (p .rules) (p .levels)) (p .levels) (p .parent) (left at) (p .base + at) rows r (simp length-drop (omega arith)) is some
+          ∙ rw (drop-drop, o)
+
+      -- neither it nor what stands inside it is where the region stops
+      stands-after : stands (tryFrom at ∷ (inner at r rows ++ after)) ≡ stands after
+      stands-after =
+          rw is
+          (stands-hit (deepest - p .levels) r (inner at r rows ++ after)
+          ∙ past-within (deepest - p .levels) (boxTries (p .rules) (p .levels)) (past-box (p .rules) (p .levels) (deepest - p .levels) deep (omega arith))
+          (take (r .declared) (left at)) r rows after)
+
+      rest-record : rest at t rows tries whole ≡ ends after m₂
+      rest-record =
+          ap (λ (vs : List Try). ends vs here) parted
+          ∙ ap₂ ended stands-after
+          (run-cons (p .limit) (p .room) (tryFrom at) (inner at r rows ++ after) here
+          ∙ rw made (run-append (p .limit) (p .room) (inner at r rows) after m₁ ∙ rw (← ins)))
 
       -- the walk goes on after it
       rest-on : m₁ .1 .rows ≡ rows + 1 → m₂ .1 .cut ≡ Going → rest at t rows tries whole ≡ rest (at + r .declared) (m₂ .0) (m₂ .1 .rows) (m₂ .1 .tries) (m₂ .1 .whole)
@@ -150,17 +207,18 @@ module _ (p : Place) where
           ∙ run-rows (p .limit) (p .room) (inner at r rows) m₁ (subst (λ (m : Walk). m .1 .cut ≡ Going) ins g)
           ∙ ap (λ (k : ℕ). k + length (rowsFound (inner at r rows))) one in
           rest-record
-          ∙ ap (λ (k : ℕ). runs (outer (at + r .declared) k) m₂) (sym n)
-          ∙ ap (λ (c : Cut). runs (outer (at + r .declared) (m₂ .1 .rows)) (m₂ .0, state (m₂ .1 .rows) (m₂ .1 .tries) (m₂ .1 .whole) c)) g
+          ∙ ap (λ (k : ℕ). ends (outer (at + r .declared) k) m₂) (sym n)
+          ∙ ap (λ (c : Cut). ends (outer (at + r .declared) (m₂ .1 .rows)) (m₂ .0, state (m₂ .1 .rows) (m₂ .1 .tries) (m₂ .1 .whole) c)) g
 
       -- it is cut off inside
-      rest-inside : (m₂ .1 .cut ≡ Going → ⊥) → rest at t rows tries whole ≡ m₂
-      rest-inside g = rest-record ∙ run-cut (p .limit) (p .room) _ m₂ g
+      rest-inside : (m₂ .1 .cut ≡ Going → ⊥) → rest at t rows tries whole ≡ cutOff m₂
+      rest-inside g = rest-record ∙ ap (ended (stands after)) (run-cut (p .limit) (p .room) after m₂ g) ∙ ended-cut (stands after) m₂ g
 
   -- ---- a try
 
   -- what is known after the try of a turn
   pub record Tried (at : ℕ) (t t₁ : List ℕ) (rows tries : ℕ) (f : Found) : Type 0 where
+    pub deep : p .levels ≤ deepest
     pub within : at < length (p .bytes)
     pub due : tries < p .limit
     pub gave : _≡_ {A = List ℕ × Found} (t₁, f) (found (p .room) rows (tryFrom at) t)
@@ -170,7 +228,7 @@ module _ {p : Place} {at : ℕ} {t t₁ : List ℕ} {rows tries : ℕ} {f : Foun
   made : step (p .limit) (p .room) (tryFrom p at) (t, state rows tries whole Going) ≡ (t₁, counted rows (tries + 1) whole f)
   made = step-made (p .limit) (p .room) (tryFrom p at) t t₁ f rows tries whole (y .due) (y .gave)
 
-  pub full-turn : f ≡ NoRoom → rest p at t rows tries whole ≡ (t₁, state rows (tries + 1) whole Full)
+  pub full-turn : f ≡ NoRoom → rest p at t rows tries whole ≡ (t₁, walked rows (tries + 1) whole Full Untold 0)
   full-turn e =
       rest-cut p at t rows tries whole (y .within) (t₁, state rows (tries + 1) whole Full)
       (made ∙ ap (λ (k : Found). (t₁, counted rows (tries + 1) whole k)) e) full-going
@@ -178,15 +236,17 @@ module _ {p : Place} {at : ℕ} {t t₁ : List ℕ} {rows tries : ℕ} {f : Foun
   some-left : 0 < length (left p at)
   some-left = let h = y .within in simp length-drop (omega arith)
 
-  pub stop-turn : f ≡ Nothing → rest p at t rows tries whole ≡ (t₁, state rows (tries + 1) whole Going)
-  stop-turn e =
-      let n = found-nothing (p .room) rows t t₁ (tryFrom p at) (rw e at (y .gave)) in
-      ap (λ (vs : List Try). runs p vs (t, state rows tries whole Going))
-      (records-stop (p .rules) (boxTries (p .rules) (p .levels)) (p .levels) (p .parent) (left p at) (p .base + at) rows (n .0) (n .1) some-left (n .2))
-      ∙ run-cons (p .limit) (p .room) (tryFrom p at) [] (t, state rows tries whole Going)
+  pub stop-turn : {stop : Stop} {type : ℕ} → f ≡ Nothing stop type → rest p at t rows tries whole ≡ (t₁, walked rows (tries + 1) whole Going stop type)
+  stop-turn {stop} {type} e =
+      let n = found-nothing (p .room) rows t t₁ stop type (tryFrom p at) (rw e at (y .gave)) in
+      ap (λ (vs : List Try). ends p vs (t, state rows tries whole Going))
+      (records-stop (p .rules) (boxTries (p .rules) (p .levels)) (p .levels) (p .parent) (left p at) (p .base + at) rows some-left (n .is))
+      ∙ ap₂ ended (stands-here (deepest - p .levels) (p .parent) (p .base + at) (length (left p at)) (headOf (p .rules) (left p at)) [] (n .is))
+      (run-cons (p .limit) (p .room) (tryFrom p at) [] (t, state rows tries whole Going)
       ∙ run-none (p .limit) (p .room) (step (p .limit) (p .room) (tryFrom p at) (t, state rows tries whole Going))
       ∙ made
-      ∙ ap (λ (k : Found). (t₁, counted rows (tries + 1) whole k)) e
+      ∙ ap (λ (k : Found). (t₁, counted rows (tries + 1) whole k)) e)
+      ∙ ap₂ (λ (s : Stop) (k : ℕ). (t₁, walked rows (tries + 1) whole Going s k)) (sym (n .why)) (sym (n .bad))
 
   module _ {h d z : ℕ} {b : Bool} (e : f ≡ Row h d z b) where
     seen : Hit (p .room) rows (tryFrom p at) h d z b
@@ -218,7 +278,7 @@ module _ {p : Place} {at : ℕ} {t t₁ : List ℕ} {rows tries : ℕ} {f : Foun
 
     turn : (m₂ : Walk) → m₂ ≡ runs p (inner p at (seen .row) rows) (t₁, more) → m₂ .1 .cut ≡ Going → rest p at t rows tries whole ≡ rest p (at + d) (m₂ .0) (m₂ .1 .rows) (m₂ .1 .tries) (m₂ .1 .whole)
     turn m₂ ins g =
-        rest-on p at t rows tries whole (y .within) (seen .row) (seen .is) (from .some) (t₁, more) m₂ made-row ins refl g
+        rest-on p at t rows tries whole (y .deep) (y .within) (seen .row) (seen .is) (from .some) (t₁, more) m₂ made-row ins refl g
         ∙ ap (λ (k : ℕ). rest p (at + k) (m₂ .0) (m₂ .1 .rows) (m₂ .1 .tries) (m₂ .1 .whole)) (sym (seen .declared))
 
     -- a record that is no Box
@@ -243,8 +303,8 @@ module _ {p : Place} {at : ℕ} {t t₁ : List ℕ} {rows tries : ℕ} {f : Foun
       pub box-turn : s₂ .cut ≡ Going → rest p at t rows tries whole ≡ rest p (at + d) t₂ (s₂ .rows) (s₂ .tries) (s₂ .whole)
       box-turn g = turn (t₂, s₂) inside g
 
-      pub box-cut : (s₂ .cut ≡ Going → ⊥) → rest p at t rows tries whole ≡ (t₂, s₂)
-      box-cut g = rest-inside p at t rows tries whole (y .within) (seen .row) (seen .is) (from .some) (t₁, more) (t₂, s₂) made-row inside g
+      pub box-cut : (s₂ .cut ≡ Going → ⊥) → rest p at t rows tries whole ≡ cutOff (t₂, s₂)
+      box-cut g = rest-inside p at t rows tries whole (y .deep) (y .within) (seen .row) (seen .is) (from .some) (t₁, more) (t₂, s₂) made-row inside g
 
 -- ---- what the code's calls say
 
@@ -263,13 +323,13 @@ module _ (p : Place) (at word flags : ℕ) where
   abbrev part : List ℕ
   part = take (length (p .bytes) - at) (left p at)
 
-  pub tried-at : {t t₁ : List ℕ} {rows tries : ℕ} {f : Found} → at < length (p .bytes) → tries < p .limit
+  pub tried-at : {t t₁ : List ℕ} {rows tries : ℕ} {f : Found} → p .levels ≤ deepest → at < length (p .bytes) → tries < p .limit
       → word ≡ wordOf part → ((word ≡ noWord → ⊥) → flags ≡ flagsOf (p .rules) word)
       → _≡_ {A = List ℕ × Found} (t₁, f) (found (p .room) rows (tryAt (deepest - p .levels) (p .parent) (p .base + at) part word flags) t)
       → RowBounds f → Tried p at t t₁ rows tries f
-  tried-at within due is-word is-flags gave bounded =
+  tried-at deep within due is-word is-flags gave bounded =
       let h : headWith part word flags ≡ headOf (p .rules) part = head-known (p .rules) part word flags is-word is-flags in
-      record { within = within; due = due; gave = rw (h, tail-part) at gave; bounded = bounded }
+      record { deep = deep; within = within; due = due; gave = rw (h, tail-part) at gave; bounded = bounded }
 
 -- a cut that is not the first is none that goes on
 pub tag-cut : (cut : Cut) → OneOf (1 ∷ 2 ∷ []) (tagOf cut-type cut) → cut ≡ Going → ⊥

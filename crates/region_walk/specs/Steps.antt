@@ -1,13 +1,17 @@
 -- What a walk keeps to, lent as an array of numbers, and what the region walk and the Box walk give.
-use Prim.Native.Nat.{ℕ, _+_, _*_, _≤_, _<_, _^_}
+use Prim.Native.Nat.{ℕ, _+_, _-_, _*_, _≤_, _<_, _^_}
 use mathlib.Core.List.{List, [], _∷_}
 use mathlib.Core.Bool.{Bool}
 use lib.ListN.{length, getD}
 use Rattle.rules.specs.Columns.{rulesIn}
 use Rattle.region_rows.specs.Rows.{width}
-use Rattle.region_try.specs.Tries.{deepest, boxTries, regionTries}
+use Rattle.region_try.specs.Stops.{Standing, standingTold, stopOf, badTypeOf}
+use Rattle.region_try.specs.Tries.{Try, deepest, standsAt, boxTries, regionTries}
 use Rattle.region_try.specs.Steps.{Walk, state, run}
+use Rattle.region_try.specs.declared.Cut.{Cut}
 use Rattle.region_try.specs.declared.Cut.the-variants.{Going}
+use Rattle.region_try.specs.declared.stop.Stop.{Stop}
+use Rattle.region_walk.specs.declared.Walked.{Walked}
 
 -- ---- the bounds
 
@@ -47,9 +51,31 @@ pub record Walkable (bytes : List ℕ) (base levels : ℕ) (bs spans : List ℕ)
 abbrev pub going : List ℕ → ℕ → ℕ → Bool → Walk
 going t rows tries whole = (t, state rows tries whole Going)
 
+-- the end of a region's walk: the counts, why the region stops, and its bad type
+abbrev pub walked : ℕ → ℕ → Bool → Cut → Stop → ℕ → Walked
+walked rows tries whole cut stop type =
+    record { rows = rows; tries = tries; whole = whole; cut = cut; stop = stop; «bad_type» = type }
+
+-- a run of a region, by its end and what then stands there
+abbrev pub endedAt : Standing → Walk → List ℕ × Walked
+endedAt standing m = (m .0, walked (m .1 .rows) (m .1 .tries) (m .1 .whole) (m .1 .cut) (stopOf standing) (badTypeOf standing))
+
+-- which is told where nothing cuts the walk off
+abbrev pub ended : Standing → Walk → List ℕ × Walked
+ended standing m = endedAt (standingTold (m .1 .cut) standing) m
+
+-- what stands where a region with so many levels left stops, by its tries
+abbrev pub standsIn : ℕ → List Try → Standing
+standsIn levels vs = standsAt (deepest - levels) vs
+
+-- its tries, run
+abbrev pub regionEnd : ℕ → ℕ → ℕ → List Try → Walk → List ℕ × Walked
+regionEnd limit room levels vs m = ended (standsIn levels vs) (run limit room vs m)
+
 -- the tries of a region
-abbrev pub regionRun : List ℕ → List ℕ → ℕ → List ℕ → ℕ → ℕ → Walk → Walk
-regionRun rules bs levels bytes base parent m = run (limitIn bs) (roomIn bs) (regionTries (tableIn rules bs) levels bytes base parent (m .1 .rows)) m
+abbrev pub regionRun : List ℕ → List ℕ → ℕ → List ℕ → ℕ → ℕ → Walk → List ℕ × Walked
+regionRun rules bs levels bytes base parent m =
+    regionEnd (limitIn bs) (roomIn bs) levels (regionTries (tableIn rules bs) levels bytes base parent (m .1 .rows)) m
 
 -- the tries inside a Box whose row is the last
 abbrev pub boxRun : List ℕ → List ℕ → ℕ → List ℕ → ℕ → ℕ → ℕ → Walk → Walk

@@ -3,12 +3,13 @@
 ghost use mathlib.Core.Path.{_≡_};
 ghost use Prim.Native.Nat.{_+_, _<_};
 ghost use Rattle.region_try.specs.Steps.{state};
-ghost use Rattle.region_walk.specs.Steps.{boundsOf, roomIn, Walkable, going, regionRun, boxRun};
+ghost use Rattle.region_walk.specs.Steps.{boundsOf, roomIn, Walkable, walked, going, regionRun, boxRun};
 use header_judge::version::NO_WORD;
 use header_judge::version::word_of;
 use region_try::Cut;
 use region_try::Found;
 use region_try::State;
+use region_try::stop::Stop;
 use rules::columns::NUMBERS;
 
 // How deep Boxes are opened.
@@ -28,6 +29,29 @@ pub fn bounds_of(limit: u64, room: u32, rule_rows: usize) -> [u64; BOUNDS]
     ensures { λ r. ⌜ r ≡ boundsOf limit room «rule_rows» ⌝ }
 {
     [limit, room as u64, rule_rows as u64]
+}
+
+// How a region's walk ends: the counts, and why the region stops, with its bad type, where nothing cuts the walk off.
+pub struct Walked {
+    pub rows: u32,
+    pub tries: u64,
+    pub whole: bool,
+    pub cut: Cut,
+    pub stop: Stop,
+    pub bad_type: u32,
+}
+
+fn ended(rows: u32, tries: u64, whole: bool, cut: Cut, stop: Stop, bad_type: u32) -> Walked
+    ensures { λ r. ⌜ r ≡ walked rows tries whole cut stop «bad_type» ⌝ }
+{
+    Walked {
+        rows: rows,
+        tries: tries,
+        whole: whole,
+        cut: cut,
+        stop: stop,
+        bad_type: bad_type,
+    }
 }
 
 fn counts(rows: u32, tries: u64, whole: bool, cut: Cut) -> State
@@ -53,7 +77,7 @@ pub fn region_walk(
     mut tries: u64,
     mut whole: bool,
     spans: &mut [u32],
-) -> State
+) -> Walked
     requires { ⌜ Walkable (now bytes) base levels (now bounds) (now spans) ⌝ }
     ensures { λ r. ⌜ (now (spans .exit), r) ≡ regionRun (now (rules .entry)) (now (bounds .entry)) levels (now (bytes .entry)) base parent (going (now (spans .entry)) rows tries whole) ⌝ }
 {
@@ -62,7 +86,7 @@ pub fn region_walk(
     let mut at: usize = 0;
     while at < bytes.len() {
         if bounds[LIMIT] <= tries {
-            return counts(rows, tries, whole, Cut::Spent);
+            return ended(rows, tries, whole, Cut::Spent, Stop::Untold, 0);
         }
         let word = word_of(&bytes[at..]);
         if word != last {
@@ -82,11 +106,11 @@ pub fn region_walk(
             spans,
         );
         match tried {
-            Found::Nothing => {
-                return counts(rows, tries, whole, Cut::Going);
+            Found::Nothing { stop, bad_type } => {
+                return ended(rows, tries, whole, Cut::Going, stop, bad_type);
             }
             Found::NoRoom => {
-                return counts(rows, tries, whole, Cut::Full);
+                return ended(rows, tries, whole, Cut::Full, Stop::Untold, 0);
             }
             Found::Row {
                 held,
@@ -115,7 +139,14 @@ pub fn region_walk(
                     match cut {
                         Cut::Going => {}
                         _ => {
-                            return counts(inner.rows, inner.tries, inner.whole, cut);
+                            return ended(
+                                inner.rows,
+                                inner.tries,
+                                inner.whole,
+                                cut,
+                                Stop::Untold,
+                                0,
+                            );
                         }
                     }
                     rows = inner.rows;
@@ -126,7 +157,7 @@ pub fn region_walk(
             }
         }
     }
-    counts(rows, tries, whole, Cut::Going)
+    ended(rows, tries, whole, Cut::Going, Stop::EndOfInput, 0)
 }
 
 // What stands inside a Box whose row is `row`. It is opened where a level is left and its header is held.
@@ -152,7 +183,7 @@ fn box_walk(
     if held.len() <= size {
         return counts(rows, tries, whole, Cut::Going);
     }
-    region_walk(
+    let child = region_walk(
         &held[size..],
         rules,
         bounds,
@@ -163,5 +194,7 @@ fn box_walk(
         tries,
         whole,
         spans,
-    )
+    );
+    let cut = child.cut;
+    counts(child.rows, child.tries, child.whole, cut)
 }

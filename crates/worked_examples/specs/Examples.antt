@@ -1,28 +1,39 @@
--- The worked examples P1 to P12 of document 01, 'Checked examples', as one table of rows.
+-- The worked examples P1 to P12 of document 01, 'Checked examples', and each ending and each reason of document 02, C-12, as one table of rows.
 use Prim.Native.Nat.{ℕ, _*_, _/_, _%_}
 use mathlib.Core.Bool.{Bool, true, false}
 use mathlib.Core.List.{List, [], _∷_, _++_}
 use lib.ListN.{take, replicate}
+use Rattle.answers.specs.Numbers.{ended}
 use Rattle.header.specs.Access.{dieOf}
-use Rattle.header.specs.Header.{numberOf, decodedOf}
+use Rattle.header.specs.Header.{numberOf, endingTold, decodedOf}
 use Rattle.header.specs.declared.HeaderType.{HeaderType}
 use Rattle.header.specs.declared.HeaderType.the-variants.{Type0, Type1, Type2, Type3, Type4, Type5, Type6, Type0LegacyServer, Type0LegacyGpu}
 use Rattle.header.specs.declared.access.Die.{Die}
 use Rattle.region_rows.specs.declared.Span.{Span}
 use Rattle.region_rows.specs.Rows.{width, top, flat}
+use Rattle.region_try.specs.Stops.{stopNumber}
 use Rattle.region.specs.Listing.{listed, typeOf, numberOf as listingNumber}
 
 -- ---- the kinds of examples
 
 pub data Example : Type 0 where
-  -- a region listed with no rules under a limit, into so many rows: answer, type, rows, tries, `whole`, and the rows
-  lists : (bytes : List ℕ) (limit room answer type rows tries : ℕ) (whole : Bool) (spans : List Span) → Example
+  -- a region listed with no rules under a limit, into so many rows: answer, type, rows, tries, `whole`, why the top region stopped, and the rows
+  lists : (bytes : List ℕ) (limit room answer type rows tries : ℕ) (whole : Bool) (stop : ℕ) (spans : List Span) → Example
+  -- bytes that decode to no header, since the records have ended
+  ends : (bytes : List ℕ) (ending : ℕ) → Example
   -- the die of a legacy server header of a revision, decoded under a rule that makes it one
   die : (revision id : ℕ) → Example
   -- a type 6 header with a halfword at 26: status count, complete, header size
   half : (word count : ℕ) (complete : Bool) (size : ℕ) → Example
 
 -- ---- the inputs
+
+-- the two words that end the records
+abbrev zeros : List ℕ
+zeros = 0 ∷ 0 ∷ 0 ∷ 0 ∷ []
+
+abbrev deadbeef : List ℕ
+deadbeef = 0xef ∷ 0xbe ∷ 0xad ∷ 0xde ∷ []
 
 -- P4 to P7: a Punit record header, of which each byte string is a part or a variation
 abbrev punit : ℕ → ℕ → List ℕ
@@ -49,7 +60,11 @@ abbrev row : ℕ → ℕ → ℕ → ℕ → ℕ → ℕ → Span
 row level parent offset held declared word =
     record { level = level; parent = parent; offset = offset; held = held; declared = declared; size = 8; word = word; flags = 0 }
 
--- its rows
+-- the row of a Punit record of 8 bytes, alone at the start
+abbrev rowFirst : Span
+rowFirst = row 0 top 0 8 8 0x03123101
+
+-- the rows of the dump input
 abbrev rowBox : Span
 rowBox = row 0 top 0 20 20 0x3d123101
 
@@ -68,15 +83,15 @@ rowOfBox level parent offset size = row level parent offset size size 0x3d123101
 abbrev pub examples : List Example
 examples =
     -- P1 to P3
-    lists [] 9 9 5 0 0 0 false []
-    ∷ lists (1 ∷ 2 ∷ 3 ∷ []) 9 9 5 0 0 1 false []
-    ∷ lists (0xef ∷ 0xbe ∷ 0xad ∷ 0xde ∷ []) 9 9 5 0 0 1 false []
+    lists [] 9 9 5 0 0 0 false 1 []
+    ∷ lists (1 ∷ 2 ∷ 3 ∷ []) 9 9 5 0 0 1 false 4 []
+    ∷ lists deadbeef 9 9 5 0 0 1 false 3 []
     -- P4 to P6
-    ∷ lists (take 5 (punit 0x31 2)) 9 9 3 0 0 1 false []
-    ∷ lists (punit 0x37 2) 9 9 4 7 0 1 false []
-    ∷ lists (punit 0x31 0) 9 9 5 0 0 1 false []
+    ∷ lists (take 5 (punit 0x31 2)) 9 9 3 0 0 1 false 5 []
+    ∷ lists (punit 0x37 2) 9 9 4 7 0 1 false 5 []
+    ∷ lists (punit 0x31 0) 9 9 5 0 0 1 false 6 []
     -- P7
-    ∷ lists (punit 0x31 2 ++ punit 0x37 2) 9 9 0 0 1 2 true (row 0 top 0 8 8 0x03123101 ∷ [])
+    ∷ lists (punit 0x31 2 ++ punit 0x37 2) 9 9 0 0 1 2 true 5 (rowFirst ∷ [])
     -- P8
     ∷ die 0x83 12
     ∷ die 0x03 12
@@ -86,13 +101,25 @@ examples =
     ∷ half 0xffff 127 true 536
     ∷ half 0xff80 0 true 28
     -- P10
-    ∷ lists boxes 9 9 0 0 5 5 true
+    ∷ lists boxes 9 9 0 0 5 5 true 1
     (rowOfBox 0 top 0 48 ∷ rowOfBox 1 0 8 40 ∷ rowOfBox 2 1 16 32 ∷ rowOfBox 3 2 24 24 ∷ rowOfBox 4 3 32 16 ∷ [])
     -- P11
-    ∷ lists dumped 2 9 7 0 2 2 false (rowBox ∷ rowPunit ∷ [])
-    ∷ lists dumped 9 1 6 0 1 2 false (rowBox ∷ [])
+    ∷ lists dumped 2 9 7 0 2 2 false 0 (rowBox ∷ rowPunit ∷ [])
+    ∷ lists dumped 9 1 6 0 1 2 false 0 (rowBox ∷ [])
     -- P12
-    ∷ lists dumped 81920 512 0 0 3 4 false (rowBox ∷ rowPunit ∷ rowMca ∷ [])
+    ∷ lists dumped 81920 512 0 0 3 4 false 1 (rowBox ∷ rowPunit ∷ rowMca ∷ [])
+    -- C-12: after a record, at each reason but the bad header of P7; the last stops at the end of its input, and its Box at a zero word
+    ∷ lists (punit 0x31 2) 9 9 0 0 1 1 true 1 (rowFirst ∷ [])
+    ∷ lists (punit 0x31 2 ++ zeros) 9 9 0 0 1 2 true 2 (rowFirst ∷ [])
+    ∷ lists (punit 0x31 2 ++ deadbeef) 9 9 0 0 1 2 true 3 (rowFirst ∷ [])
+    ∷ lists (punit 0x31 2 ++ (1 ∷ 2 ∷ 3 ∷ [])) 9 9 0 0 1 2 true 4 (rowFirst ∷ [])
+    ∷ lists (punit 0x31 2 ++ punit 0x31 0) 9 9 0 0 1 2 true 6 (rowFirst ∷ [])
+    ∷ lists (box 3 ++ zeros) 9 9 0 0 1 2 true 1 (rowOfBox 0 top 0 12 ∷ [])
+    -- C-12: a decode at each ending
+    ∷ ends zeros 2
+    ∷ ends deadbeef 3
+    ∷ ends (1 ∷ 2 ∷ 3 ∷ []) 4
+    ∷ ends [] 4
     ∷ []
 
 -- ---- what the definitions say of an example
@@ -129,9 +156,13 @@ abbrev counted : ℕ → List ℕ
 counted word = (0x01 ∷ 0x36 ∷ 0x12 ∷ 0x03 ∷ replicate 22 0) ++ (word % 256 ∷ word / 256 ∷ replicate 508 0)
 
 unfoldable pub computed : Example → List ℕ
-computed (lists bytes limit room answer type rows tries whole spans) =
+computed (lists bytes limit room answer type rows tries whole stop spans) =
     let end = listed [] bytes limit (replicate (room * width) 0) in
-    listingNumber (end .1 .answer) ∷ typeOf (end .1 .answer) ∷ end .1 .rows ∷ end .1 .tries ∷ bit (end .1 .whole) ∷ take (end .1 .rows * width) (end .0)
+    listingNumber (end .1 .answer) ∷ typeOf (end .1 .answer) ∷ end .1 .rows ∷ end .1 .tries ∷ bit (end .1 .whole) ∷ stopNumber (end .1 .stop)
+    ∷ take (end .1 .rows * width) (end .0)
+computed (ends bytes ending) =
+    let end = decodedOf [] bytes in
+    numberOf (end .answer) ∷ endingTold (end .answer) ∷ []
 computed (die revision id) =
     let end = decodedOf allServers (revised revision) in
     numberOf (end .answer) ∷ dieNumber (dieOf (end .header .«header_type»))
@@ -139,8 +170,9 @@ computed (half word count complete size) =
     let end = decodedOf [] (counted word) in
     numberOf (end .answer) ∷ end .«header_size» ∷ halfIn (end .header .«header_type»)
 
--- what document 01 says of it
+-- what the documents say of it
 abbrev pub stated : Example → List ℕ
-stated (lists bytes limit room answer type rows tries whole spans) = answer ∷ type ∷ rows ∷ tries ∷ bit whole ∷ flat spans
+stated (lists bytes limit room answer type rows tries whole stop spans) = answer ∷ type ∷ rows ∷ tries ∷ bit whole ∷ stop ∷ flat spans
+stated (ends bytes ending) = ended ∷ ending ∷ []
 stated (die revision id) = 0 ∷ id ∷ []
 stated (half word count complete size) = 0 ∷ size ∷ count ∷ bit complete ∷ []

@@ -25,11 +25,11 @@ returns c =
 
 returns-2 : tie.Need-returns-2
 unfolding judgedFrom
-returns-2 c = found (c .before .before .before) (c .before .enum-told .given .1) (c .refused2 .ensures)
+returns-2 c = found (c .before .before .before .before) (c .before .before .ending .given .1) (c .refused2 .ensures)
 
 returns-3 : tie.Need-returns-3
 unfolding judgedFrom
-returns-3 c = found (c .before .before .before) (c .before .enum-told2 .given .1) (c .refused3 .ensures)
+returns-3 c = found (c .before .before .before) (c .before .enum-told .given .1) (c .refused3 .ensures)
 
 returns-4 : tie.Need-returns-4
 unfolding judgedFrom

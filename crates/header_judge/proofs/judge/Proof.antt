@@ -1,6 +1,6 @@
 -- `judge` gives what the header is.
 -- By its tests, from the word, the flags and the size. Assumes nothing.
-use mathlib.Core.Path.{_≡_, refl, sym, ap₂, _∙_}
+use mathlib.Core.Path.{_≡_, refl, sym, ap, ap₂, _∙_}
 use mathlib.Core.List.{List}
 use Prim.Native.Nat.{ℕ, _<_}
 use native.Mathlib.Omega.{arith}
@@ -8,7 +8,7 @@ use Rattle.rules.specs.Rules.{flagsOf}
 use Rattle.header_judge.specs.Version.{noWord, wordOf}
 use Rattle.header_judge.specs.Head.{lacking, headWith, headOf}
 use Rattle.header_judge.specs.declared.Head.{Head}
-use Rattle.header_judge.specs.declared.Head.the-variants.{Record}
+use Rattle.header_judge.specs.declared.Head.the-variants.{Ended, Record}
 use Rattle.header_judge.proofs.Sizes.{bad-from-seven}
 use Rattle.header_judge.proofs.Heads.{head-ended, head-bad-type, head-bad-header, head-record}
 use borrow.Author.Needs.{needs}
@@ -22,10 +22,14 @@ known rules bs word flags e f = rw (f, e)
 
 returns : tie.Need-returns
 returns c =
-    let a = c .before .before .before .before .args in
-    let word = c .before .word-of in
-    let flags = flagsOf (a .rules .now) (word .result) in
-    (sym (head-ended (a .s .now) (word .result) flags (c .if1 .taken)) ∙ known (a .rules .now) (a .s .now) (word .result) flags (word .ensures) refl, tt)
+    let worded = c .before .before in
+    let a = worded .before .before .before .args in
+    let word = worded .word-of in
+    let flags = flagsOf (a .rules .now) (word .result) in (
+      ap Ended (c .ending-of .ensures)
+          ∙ sym (head-ended (a .s .now) (word .result) flags (c .before .if1 .taken)) ∙ known (a .rules .now) (a .s .now) (word .result) flags (word .ensures) refl,
+      tt,
+    )
 
 -- ---- a word that is there, its flags and the size
 
@@ -80,6 +84,7 @@ pub judge-spec : {M : Type 1} → statement M
 judge-spec =
     tie.close
     (tie.spec
+    (λ c κs. search needs)
     (λ c κs. search needs)
     returns
     (λ c κs. search needs)

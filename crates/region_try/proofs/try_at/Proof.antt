@@ -5,11 +5,12 @@ use Prim.Native.Nat.{_<_, _≤_}
 use native.Mathlib.Omega.{arith}
 use lib.ListN.{length}
 use denote.Ref.{now}
+use Rattle.header_judge.specs.Version.{noWord}
 use Rattle.header_judge.specs.Head.{lacking, sizeOf, declaredOf}
 use Rattle.region_try.specs.Tries.{hit, spanOf}
 use Rattle.region_try.specs.Steps.{tryAt}
-use Rattle.region_try.proofs.Heads.{ended-stops, sizeless-stops, empty-stops, record-hit}
-use Rattle.region_try.proofs.Finds.{finds-nothing, finds-no-room, finds-row}
+use Rattle.region_try.proofs.Heads.{ended-stops, bad-type-stops, bad-header-stops, empty-stops, record-hit}
+use Rattle.region_try.proofs.Finds.{finds-nothing, finds-sizeless, sizeless-bounds, finds-no-room, finds-row}
 use borrow.Author.Needs.{needs}
 use Rattle.region_try.proofs.try_at.Statement.{statement}
 use Rattle.region_try.proofs.try_at.Tie as tie
@@ -26,14 +27,25 @@ roomy c = c .before .before .before
 
 returns : tie.Need-returns
 returns c =
-    let a = c .before .before .before .args in
-    (finds-nothing (a .room) (a .rows) (now (a .spans)) (ended-stops (a .level) (a .parent) (a .offset) (now (a .bytes)) (a .word) (a .flags) (omega arith)), tt)
+    let ending = c .before in
+    let a = ending .before .before .before .before .args in (
+      rw (c .stop-ended .ensures, ending .ending-of .ensures)
+          (finds-nothing (a .room) (a .rows) (now (a .spans)) (ended-stops (a .level) (a .parent) (a .offset) (now (a .bytes)) (a .word) (a .flags) (omega arith))),
+      tt,
+    )
 
 returns-2 : tie.Need-returns-2
 returns-2 c =
-    let a = sized (c .before) .args in
-    let small : sizeOf (now (a .bytes)) (a .word) (a .flags) ≤ lacking = omega arith in
-    (finds-nothing (a .room) (a .rows) (now (a .spans)) (sizeless-stops (a .level) (a .parent) (a .offset) (now (a .bytes)) (a .word) (a .flags) (λ e. omega arith) small), tt)
+    let s = c .before .before in
+    let a = sized s .args in
+    let there : a .word ≡ noWord → ⊥ = λ e. omega arith in
+    let small : sizeOf (now (a .bytes)) (a .word) (a .flags) ≤ lacking = omega arith in (
+      rw (c .sizeless .ensures, s .size-of .ensures .0)
+          (finds-sizeless (a .room) (a .rows) (now (a .spans)) (a .word) (sizeOf (now (a .bytes)) (a .word) (a .flags)) small
+          (bad-type-stops (a .level) (a .parent) (a .offset) (now (a .bytes)) (a .word) (a .flags) there)
+          (bad-header-stops (a .level) (a .parent) (a .offset) (now (a .bytes)) (a .word) (a .flags) there)),
+      rw (c .sizeless .ensures) (sizeless-bounds (a .word) (s .size-of .result)),
+    )
 
 declared-of-requires : tie.Need-declared-of-requires
 declared-of-requires c κs = c .before .size-of .ensures .1 (omega arith) .sizes
@@ -64,7 +76,7 @@ returns-4 c =
 size-bounds : (c : tie.After-declared-of) → let a = declared c .args in (8 ≤ c .before .before .size-of .result) × (c .before .before .size-of .result ≤ 536)
 size-bounds c = let q = c .before .before .size-of .ensures .1 (omega arith) in (q .least, q .most)
 
-cast-size : tie.Need-cast-t19
+cast-size : tie.Need-cast-t22
 cast-size c = let q = size-bounds (roomy c) in omega arith
 
 returns-5 : tie.Need-returns-5
@@ -84,7 +96,10 @@ pub try-at-spec : {M : Type 1} → statement M
 try-at-spec =
     tie.close
     (tie.spec
+    (λ c κs. search needs)
+    (λ c κs. search needs)
     returns
+    (λ c κs. search needs)
     (λ c κs. search needs)
     returns-2
     declared-of-requires

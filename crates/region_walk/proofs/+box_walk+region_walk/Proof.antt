@@ -12,11 +12,11 @@ use denote.Ref.{now}
 use Rattle.basics.proofs.Parts.{tail-part}
 use Rattle.rules.specs.Rules.{flagsOf}
 use Rattle.header_judge.specs.Version.{noWord}
-use Rattle.region_try.specs.Steps.{Walk}
-use Rattle.region_try.proofs.Tries.{box-deep, box-short, box-open}
+use Rattle.region_try.proofs.Tries.{box-deep, box-short}
 use Rattle.region_try.proofs.Runs.{run-empty}
 use Rattle.region_walk.specs.Steps.{limitIn, roomIn, tableIn, going}
-use Rattle.region_walk.proofs.Turn.{held-fits, Place, rest, entire, rest-start, rest-same, rest-end, rest-spent, Tried, tried-at, remembered, stop-turn, full-turn, row-free, row-bounds, row-held, plain-turn, box-turn, box-cut, tag-cut}
+use Rattle.region_walk.specs.declared.Walked.{Walked}
+use Rattle.region_walk.proofs.Turn.{held-fits, child-counts, Place, rest, entire, rest-start, rest-same, rest-end, rest-spent, Tried, tried-at, remembered, stop-turn, full-turn, row-free, row-bounds, row-held, plain-turn, box-turn, box-cut, tag-cut}
 use borrow.Fn.Kinds.{In, Out}
 use borrow.Fn.PlainCycle.{Measures, is, falls, and}
 use Rattle.region_walk.proofs.box_walk.Reads as box-walk
@@ -27,6 +27,7 @@ use Rattle.region_walk.proofs.region_walk.Kinds as region-walk-kinds
 use Rattle.region_walk.proofs.+box_walk+region_walk.Lts-region_walk as region
 use Rattle.header_judge.proofs.version.word_of.Reads as word-of-reads
 use Rattle.region_walk.proofs.counts.Reads as counts-reads
+use Rattle.region_walk.proofs.ended.Reads as ended-reads
 use Rattle.region_try.proofs.try_at.Reads as try-at-reads
 use Rattle.rules.proofs.columns.flags.Reads as flags-reads
 use Rattle.region_walk.proofs.+box_walk+region_walk.{statement}
@@ -87,11 +88,13 @@ module _ (t : ℕ) where
 
   box-returns-3 : InBox box.Need-returns-3 t
   box-returns-3 c =
-      let walked = c .before .before in
+      let walked = c .before .before .before in
       let opened = walked .before .before .before in
       let a = opened .before .before .before .before .args in
-      rw (box-open (tableIn (now (a .rules)) (now (a .bounds))) (a .levels) (now (a .held)) (a .base) (a .size) (a .row) (omega arith) (omega arith))
-      (rw (tail-part (now (a .held)) (a .size)) at (walked .region-walk .ensures))
+      rw (c .counts3 .ensures)
+      (child-counts (tableIn (now (a .rules)) (now (a .bounds))) (limitIn (now (a .bounds))) (roomIn (now (a .bounds))) (a .levels) (now (a .held)) (a .base) (a .size) (a .row)
+      (going (now (a .spans)) (a .row + 1) (a .tries) (a .whole)) (omega arith) (omega arith)
+      (rw (tail-part (now (a .held)) (a .size)) at (walked .region-walk .ensures)))
 
 -- ---- the region walk
 
@@ -100,7 +103,7 @@ placed bytes rules bounds base levels parent =
     record { rules = tableIn rules bounds; bytes = bytes; base = base; levels = levels; parent = parent; limit = limitIn bounds; room = roomIn bounds }
 
 -- the invariant: what is left of the region, run from here, ends as the whole does; and the flags of the last word are known
-record Going-on (p : Place) (t₀ : List ℕ) (start : Walk) (t : List ℕ) (rows tries : ℕ) (whole : Bool) (last known at : ℕ) : Type 0 where
+record Going-on (p : Place) (t₀ : List ℕ) (start : List ℕ × Walked) (t : List ℕ) (rows tries : ℕ) (whole : Bool) (last known at : ℕ) : Type 0 where
   flags : (last ≡ noWord → ⊥) → known ≡ flagsOf (p .rules) last
   same : length t ≡ length t₀
   ends : start ≡ rest p at t rows tries whole
@@ -115,8 +118,8 @@ abbrev μ-loop : region.MeasureT-loop
 
 abbrev RegionCalls : ℕ → region.Claims
 RegionCalls t = (
-  counts-reads.Asked,
-  counts-reads.Learnt,
+  ended-reads.Asked,
+  ended-reads.Learnt,
   word-of-reads.Asked,
   word-of-reads.Learnt,
   flags-reads.Asked,
@@ -169,7 +172,7 @@ module _ (t : ℕ) (c : InRegion region.After-try-at t) where
   turn : Tried (place t start) (loop .loop .at) (loop .loop .spans) (c .try-at .last .1 .1 .1 .1 .1 .1 .1 .1 .0) (loop .loop .rows) (loop .loop .tries) (c .try-at .result)
   turn =
       tried-at (place t start) (loop .loop .at) (read .word-of .result) (joined .if2 .known)
-      (inside .loop-test .taken) (omega arith) (read .word-of .ensures) (known .1) (c .try-at .ensures .0) (c .try-at .ensures .1)
+      (start .pre .1 .deep) (inside .loop-test .taken) (omega arith) (read .word-of .ensures) (known .1) (c .try-at .ensures .0) (c .try-at .ensures .1)
 
 module _ (t : ℕ) where
   loop-holds : InRegion region.Need-loop-holds t
@@ -182,7 +185,7 @@ module _ (t : ℕ) where
       let looped = c .before .before .before .before in
       let s = looped .before .before .before in
       let l = looped .loop in
-      rw (c .counts .ensures) (sym (l .inv .ends ∙ rest-spent (place t s) (l .at) (l .spans) (l .rows) (l .tries) (l .whole) (omega arith) (omega arith)))
+      rw (c .ended .ensures) (sym (l .inv .ends ∙ rest-spent (place t s) (l .at) (l .spans) (l .rows) (l .tries) (l .whole) (omega arith) (omega arith)))
 
   try-at-requires : InRegion region.Need-try-at-requires t
   try-at-requires c κs =
@@ -192,25 +195,26 @@ module _ (t : ℕ) where
 
   returns-2 : InRegion region.Need-returns-2 t
   returns-2 c =
-      let y = c .before .before .before .before .before in
+      let stopped = c .before .before in
+      let y = stopped .before .before .before .before in
       let l = loop t y .loop in
-      rw (c .counts2 .ensures) (sym (l .inv .ends ∙ stop-turn (turn t y) (l .whole) (c .before .enum-told .given .1)))
+      rw (c .ended2 .ensures) (sym (l .inv .ends ∙ stop-turn (turn t y) (l .whole) (stopped .tried .given .1)))
 
   returns-3 : InRegion region.Need-returns-3 t
   returns-3 c =
       let y = c .before .before .before .before .before in
       let l = loop t y .loop in
-      rw (c .counts3 .ensures) (sym (l .inv .ends ∙ full-turn (turn t y) (l .whole) (c .before .enum-told2 .given .1)))
+      rw (c .ended3 .ensures) (sym (l .inv .ends ∙ full-turn (turn t y) (l .whole) (c .before .enum-told .given .1)))
 
   -- a record was found: its try, and what is known of it
-  abbrev tried : InRegion region.After-tried t → InRegion region.After-try-at t
+  abbrev tried : InRegion region.After-tried2 t → InRegion region.After-try-at t
   tried c = c .before .before .before .before
 
-  free : (c : InRegion region.After-tried t) → loop t (tried c) .loop .rows < place t (start t (tried c)) .room
-  free c = row-free (turn t (tried c)) (loop t (tried c) .loop .whole) (c .tried .given .1)
+  free : (c : InRegion region.After-tried2 t) → loop t (tried c) .loop .rows < place t (start t (tried c)) .room
+  free c = row-free (turn t (tried c)) (loop t (tried c) .loop .whole) (c .tried2 .given .1)
 
-  held : (c : InRegion region.After-tried t) → loop t (tried c) .loop .at + c .tried .given .0 .0 ≤ length (now (start t (tried c) .args .bytes))
-  held c = row-held (turn t (tried c)) (loop t (tried c) .loop .whole) (c .tried .given .1)
+  held : (c : InRegion region.After-tried2 t) → loop t (tried c) .loop .at + c .tried2 .given .0 .0 ≤ length (now (start t (tried c) .args .bytes))
+  held c = row-held (turn t (tried c)) (loop t (tried c) .loop .whole) (c .tried2 .given .1)
 
   add-rows : InRegion region.Need-add-rows t
   add-rows c = omega (arith, free (c .before), start t (tried (c .before)) .pre .1 .sound .room)
@@ -230,11 +234,11 @@ module _ (t : ℕ) where
       let l = loop t y .loop in
       let o = w .sound in
       let here = inside t y .loop-test .taken in
-      let offsets = held-fits (now (s .args .bytes)) (s .args .base) (l .at) (l .at + d .tried .given .0 .0 - l .at) (w .offsets) (omega arith) in
+      let offsets = held-fits (now (s .args .bytes)) (s .args .base) (l .at) (l .at + d .tried2 .given .0 .0 - l .at) (w .offsets) (omega arith) in
       (omega arith, (record { offsets = offsets; deep = w .deep; sound = record { limit = o .limit; room = o .room; rows = omega (arith, long t y, o .rows); rules = o .rules } }, free d))
 
   -- the Box was walked
-  abbrev boxed : InRegion region.After-box-walk t → InRegion region.After-tried t
+  abbrev boxed : InRegion region.After-box-walk t → InRegion region.After-tried2 t
   boxed c = c .before .before .before .before .before
 
   same-length-4 : InRegion region.Need-same-length-4 t
@@ -248,11 +252,11 @@ module _ (t : ℕ) where
       let d = boxed walked in
       let l = loop t (tried d) .loop in
       let i = walked .box-walk in
-      rw (c .counts4 .ensures) (sym (l .inv .ends
-      ∙ box-cut (turn t (tried d)) (l .whole) (d .tried .given .1) (walked .before .before .before .if3 .taken) (i .ensures) (tag-cut (i .result .cut) (c .before .match2 .keys2))))
+      rw (c .ended4 .ensures) (sym (l .inv .ends
+      ∙ box-cut (turn t (tried d)) (l .whole) (d .tried2 .given .1) (walked .before .before .before .if3 .taken) (i .ensures) (tag-cut (i .result .cut) (c .before .match2 .keys2))))
 
-  sizes : (c : InRegion region.After-tried t) → let r = c .tried .given .0 in (0 < r .1 .0) × (r .1 .0 ≤ 524280) × (0 < r .1 .1 .0) × (r .1 .1 .0 ≤ 536)
-  sizes c = row-bounds (turn t (tried c)) (loop t (tried c) .loop .whole) (c .tried .given .1)
+  sizes : (c : InRegion region.After-tried2 t) → let r = c .tried2 .given .0 in (0 < r .1 .0) × (r .1 .0 ≤ 524280) × (0 < r .1 .1 .0) × (r .1 .1 .0 ≤ 536)
+  sizes c = row-bounds (turn t (tried c)) (loop t (tried c) .loop .whole) (c .tried2 .given .1)
 
   add-at : InRegion region.Need-add-at t
   add-at c = let d = c .before .before in omega (arith, sizes d, start t (tried d) .pre .1 .offsets)
@@ -266,7 +270,7 @@ module _ (t : ℕ) where
       let y = tried d in
       let s = start t y .args in
       let l = loop t y .loop in
-      let r = d .tried .given in
+      let r = d .tried2 .given in
       let p = place t (start t y) in
       let next = l .at + r .0 .1 .0 in
       let same : length (c .if3 .spans) ≡ length (now (s .spans)) =
@@ -283,7 +287,7 @@ module _ (t : ℕ) where
   returns-5 c =
       let s = c .before .before .before .before .before in
       let l = c .before .before .loop in
-      rw (c .counts5 .ensures) (sym (l .inv .ends ∙ rest-end (place t s) (l .at) (l .spans) (l .rows) (l .tries) (l .whole) (omega arith)))
+      rw (c .ended5 .ensures) (sym (l .inv .ends ∙ rest-end (place t s) (l .at) (l .spans) (l .rows) (l .tries) (l .whole) (omega arith)))
 
 pub +box-walk+region-walk-spec : {M : Type 1} → statement M
 +box-walk+region-walk-spec =
@@ -305,6 +309,7 @@ pub +box-walk+region-walk-spec : {M : Type 1} → statement M
     (λ c. search needs)
     (λ c. search needs)
     (box-region-walk-requires t)
+    (λ c κs. search needs)
     (λ c. search needs)
     (box-returns-3 t))
     λ t. region.spec
