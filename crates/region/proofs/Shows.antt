@@ -21,7 +21,7 @@ use Rattle.region_rows.proofs.Rows.{stored, stored-none, stored-more, stored-la
 use Rattle.region_try.specs.Stops.{stopBy, badTypeBy, Standing, standingTold, stopOf, badTypeOf}
 use Rattle.region_try.specs.Tries.{Try, none, hit, deepest, regionTries, allTries}
 use Rattle.region_try.specs.Steps.{Walk, state, step, run}
-use Rattle.region_walk.specs.Steps.{ended, regionEnd}
+use Rattle.region_walk.specs.Steps.{endWhere, regionEnd}
 use Rattle.region_walk.specs.declared.Walked.{Walked}
 use Rattle.region.specs.Listing.{numberOf, answerOf, topStands, Shown, tried, triedRow, shown, noneShort, refusal, walked, listed}
 use Rattle.region.specs.declared.Answer.the-variants.{TooLong, BadRules}
@@ -200,7 +200,7 @@ module _ (rules bytes : List ℕ) (limit : ℕ) (t : List ℕ) where
         let answer = answerOf (m .1 .cut) (m .1 .rows) (m .1 .stop) (m .1 .«bad_type») in
         (m .0, record { answer = answer; rows = m .1 .rows; tries = m .1 .tries; whole = eqb (numberOf answer) 0 && m .1 .whole; stop = m .1 .stop })
 
-    walked-eq : made (ended (topStands rules bytes) (laid (all .rows) t, state (length (all .rows)) (all .tries) (noneShort (all .rows)) (all .cut))) ≡ walked rules bytes limit t
+    walked-eq : made (endWhere (topStands rules bytes) (laid (all .rows) t, state (length (all .rows)) (all .tries) (noneShort (all .rows)) (all .cut))) ≡ walked rules bytes limit t
     unfolding walked
     walked-eq = rw (answer-told (all .cut) (length (all .rows)) (topStands rules bytes))
 
@@ -208,7 +208,7 @@ module _ (rules bytes : List ℕ) (limit : ℕ) (t : List ℕ) where
         → m ≡ regionEnd limit (min (capacity t) mostRows) deepest (regionTries rules deepest bytes 0 top 0) (t, state 0 0 true Going)
         → made m ≡ listed rules bytes limit t
     unfolding allTries
-    listed-run g m e = ap made (e ∙ ap (ended (topStands rules bytes)) runs) ∙ walked-eq ∙ sym (listed-walked g)
+    listed-run g m e = ap made (e ∙ ap (endWhere (topStands rules bytes)) runs) ∙ walked-eq ∙ sym (listed-walked g)
 
 -- ---- every listing
 

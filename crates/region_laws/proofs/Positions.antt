@@ -11,7 +11,7 @@ use Rattle.header_judge.specs.declared.Head.the-variants.{Ended, BadHeader, Bad
 use Rattle.header_judge.specs.Head.{isBox, headOf}
 use Rattle.region_rows.specs.declared.Span.{Span}
 use Rattle.region_try.specs.Tries.{spanOf, Try, none, hit, tryOf, deepest, rowsFound, Inside, within, onward, records, boxTries, regionTries, allTries}
-use Rattle.region_laws.specs.Positions.{offsetOf, InsideAt, following, positions, inBox, visited}
+use Rattle.region_laws.specs.Positions.{offsetOf, InsideAt, byHead, following, positions, inBox, visited}
 
 abbrev offsets : List Try → List ℕ
 offsets vs = map offsetOf vs
@@ -37,7 +37,7 @@ module _ (rules : List ℕ) where
     onward-at : (level parent offset : ℕ) (bs : List ℕ) (n : ℕ) (head : Head) (rest : ℕ → ℕ → List Try) (after : ℕ → List ℕ)
         → ((k m : ℕ) → offsets (rest k m) ≡ after k)
         → offsets (onward box bs n (tryOf level parent offset (length bs) head) rest) ≡ offset ∷ following inside bs offset head after
-    unfolding onward tryOf following
+    unfolding onward tryOf byHead
     onward-at level parent offset bs n (Ended ending) rest after e = refl
     onward-at level parent offset bs n BadHeader rest after e = refl
     onward-at level parent offset bs n (BadType t) rest after e = refl

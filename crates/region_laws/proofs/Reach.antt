@@ -8,6 +8,7 @@ use Prim.Native.Nat.{ℕ, zero, suc, _+_, _-_, _≤_}
 use native.Mathlib.Omega.{arith}
 use lib.Dec.{eqb}
 use lib.ListN.{length, take, drop, length-drop}
+use Rattle.header_judge.specs.Version.{endingNumber}
 use Rattle.header_judge.specs.declared.Head.{Head}
 use Rattle.header_judge.specs.declared.Head.the-variants.{Ended, BadHeader, BadType, Record}
 use Rattle.header_judge.specs.Head.{headOf}
@@ -20,10 +21,11 @@ use Rattle.region_try.specs.declared.Cut.{Cut}
 use Rattle.region_try.specs.declared.Cut.the-variants.{Going, Full, Spent}
 use Rattle.region_try.specs.declared.stop.Stop.{Stop}
 use Rattle.region_try.specs.declared.stop.Stop.the-variants.{Untold, EndOfInput}
-use Rattle.region_try.proofs.Stops.{past-within, past-box}
+use Rattle.region_try.proofs.Stops.{past-within, past-box, ending-number}
 use Rattle.region.specs.Listing.{numberOf, answerOf, answerShown, topStands, shown, walked, listed}
 use Rattle.region.specs.declared.Listing.{Listing}
 use Rattle.region.proofs.Shows.{listed-cases}
+use Rattle.region_laws.specs.Positions.{byHead}
 use Rattle.region_laws.specs.Reach.{onto, reach, position, standingIn, standingLast, tells}
 
 module _ (rules : List ℕ) where
@@ -34,7 +36,7 @@ module _ (rules : List ℕ) where
       → headOf rules (b ∷ bs) ≡ head → ((k m : ℕ) → standsAt 0 (rest k m) ≡ standingIn rules (drop (reach rules k bs) bs))
       → standsAt 0 (onward (boxTries rules deepest) (b ∷ bs) n (tryOf 0 parent offset (length (b ∷ bs)) head) rest)
       ≡ standingIn rules (drop (onto head (λ skip. reach rules skip bs)) (b ∷ bs))
-  unfolding onward tryOf onto standsAt
+  unfolding onward tryOf byHead standsAt
   stands-onward parent offset b bs n (Ended ending) rest e after = ap header (sym e)
   stands-onward parent offset b bs n BadHeader rest e after = ap header (sym e)
   stands-onward parent offset b bs n (BadType t) rest e after = ap header (sym e)
@@ -147,6 +149,11 @@ module _ (rules bytes : List ℕ) (limit : ℕ) (t : List ℕ) where
 
   pub told-stands : told ≡ true → end .stop ≡ stopOf (standingLast rules bytes)
   told-stands e = stop-listed ∙ rw e
+
+  -- where the records end there, the listing tells what a header's judgement tells of it
+  pub ending-told : told ≡ true → {ending : Ending} {b : ℕ} {bs : List ℕ} → drop (position rules bytes) bytes ≡ b ∷ bs → headOf rules (b ∷ bs) ≡ Ended ending
+      → stopNumber (end .stop) ≡ endingNumber ending
+  ending-told e {ending} d h = ap stopNumber (told-stands e) ∙ rw (d, h) (ending-number ending)
 
   pub told-exactly : (end .stop ≡ Untold) ↔ (told ≡ false)
   told-exactly = by told refl

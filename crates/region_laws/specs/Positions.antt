@@ -18,13 +18,17 @@ offsetOf (hit r) = r .offset
 abbrev pub InsideAt : Type 0
 InsideAt = List ℕ → ℕ → ℕ → List ℕ
 
+-- by a header: one thing where the region stops there, else another, from the record's word, flags, declared bytes and header size
+unfoldable pub byHead : {A : Type 0} → Head → A → (ℕ → ℕ → ℕ → ℕ → A) → A
+byHead (Ended ending) stops goes = stops
+byHead BadHeader stops goes = stops
+byHead (BadType t) stops goes = stops
+byHead (Record word flags declared size) stops goes = cond (eqb declared 0) stops (goes word flags declared size)
+
 -- the positions after a header's: none where the region stops; else those inside its record, and those of the rest
-unfoldable pub following : InsideAt → List ℕ → ℕ → Head → (ℕ → List ℕ) → List ℕ
-following box bytes at (Ended ending) rest = []
-following box bytes at BadHeader rest = []
-following box bytes at (BadType t) rest = []
-following box bytes at (Record word flags declared size) rest =
-    cond (eqb declared 0) [] (cond (isBox word flags) (box (take declared bytes) at size) [] ++ rest (declared - 1))
+abbrev pub following : InsideAt → List ℕ → ℕ → Head → (ℕ → List ℕ) → List ℕ
+following box bytes at head rest =
+    byHead head [] (λ word flags declared size. cond (isBox word flags) (box (take declared bytes) at size) [] ++ rest (declared - 1))
 
 module _ (rules : List ℕ) where
   -- the positions in a region after `skip` of its bytes, of which the others start at `at`

@@ -2,20 +2,17 @@
 -- (document 02, C-12).
 use Prim.Native.Nat.{ℕ, zero, suc, _-_}
 use mathlib.Core.List.{List, [], _∷_}
-use mathlib.Core.Bool.{Bool, cond, _&&_, _||_}
+use mathlib.Core.Bool.{Bool, _&&_, _||_}
 use lib.Dec.{eqb, leb}
 use lib.ListN.{drop}
 use Rattle.header_judge.specs.declared.Head.{Head}
-use Rattle.header_judge.specs.declared.Head.the-variants.{Ended, BadHeader, BadType, Record}
 use Rattle.header_judge.specs.Head.{headOf}
 use Rattle.region_try.specs.Stops.{Standing, noByte, header}
+use Rattle.region_laws.specs.Positions.{byHead}
 
 -- how far the walk comes from a header on: nowhere where the region stops; else past this byte and as far as the rest, which is given the bytes to skip
-unfoldable pub onto : Head → (ℕ → ℕ) → ℕ
-onto (Ended ending) rest = 0
-onto BadHeader rest = 0
-onto (BadType t) rest = 0
-onto (Record word flags declared size) rest = cond (eqb declared 0) 0 (suc (rest (declared - 1)))
+abbrev pub onto : Head → (ℕ → ℕ) → ℕ
+onto head rest = byHead head 0 (λ word flags declared size. suc (rest (declared - 1)))
 
 module _ (rules : List ℕ) where
   -- how far it comes in a region, after `skip` of its bytes; the last record may reach past the end

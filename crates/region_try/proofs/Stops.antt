@@ -8,10 +8,13 @@ use native.Mathlib.Omega.{arith}
 use lib.Dec.{leb}
 use lib.ListN.{length, take, drop}
 use borrow.Author.Tests.{eq-eqb, ne-eqb}
+use Rattle.header_judge.specs.Version.{endingNumber}
 use Rattle.header_judge.specs.Head.{isBox, headOf}
+use Rattle.header_judge.specs.declared.version.Ending.{Ending}
+use Rattle.header_judge.specs.declared.version.Ending.the-variants.{ZeroWord, DeadbeefWord, FewBytes}
 use Rattle.header_judge.specs.declared.Head.{Head}
 use Rattle.region_rows.specs.declared.Span.{Span}
-use Rattle.region_try.specs.Stops.{noByte, header}
+use Rattle.region_try.specs.Stops.{noByte, header, stopEnded, stopNumber}
 use Rattle.region_try.specs.Tries.{Try, none, hit, tryOf, deepest, rowsFound, standsAt, Inside, within, onward, records, boxTries}
 use Rattle.region_try.proofs.Heads.{none-level}
 
@@ -83,3 +86,11 @@ module _ (rules : List ℕ) where
       by : PastBox l (boxTries rules k) → (b : Bool) → Past l (cond b (records rules (boxTries rules k) k row 0 (drop size held) (offset + size) (row + 1)) [])
       by past true = past-records l (boxTries rules k) past k row 0 deeper (drop size held) (offset + size) (row + 1)
       by past false = past-none l
+
+-- ---- numbers
+
+-- an ending has one number, as a header's and as a region's
+pub ending-number : (ending : Ending) → stopNumber (stopEnded ending) ≡ endingNumber ending
+ending-number ZeroWord = refl
+ending-number DeadbeefWord = refl
+ending-number FewBytes = refl

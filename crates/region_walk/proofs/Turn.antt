@@ -35,7 +35,7 @@ use Rattle.region_try.proofs.Finds.{Hit, found-nothing, found-row}
 use Rattle.region_try.proofs.Tries.{records-end, records-first, records-stop, records-hit, within-plain, within-box, box-open}
 use Rattle.region_try.proofs.Stops.{stands-none, stands-hit, stands-here, past-within, past-box}
 use Rattle.region_try.proofs.Runs.{spent-going, full-going, step-spent, step-made, run-none, run-cons, run-append, run-cut, run-rows}
-use Rattle.region_walk.specs.Steps.{walked, endedAt, ended, standsIn, regionEnd}
+use Rattle.region_walk.specs.Steps.{walkEnd, endTelling, endWhere, standsIn, regionEnd}
 use Rattle.region_walk.specs.declared.Walked.{Walked}
 
 -- ---- parts of a list
@@ -66,15 +66,15 @@ held-fits bs base at k h g =
 
 -- its end, of which nothing is told
 abbrev cutOff : Walk → List ℕ × Walked
-cutOff m = endedAt unknown m
+cutOff m = endTelling unknown m
 
 cut-unknown : (cut : Cut) (standing : Standing) → (cut ≡ Going → ⊥) → standingTold cut standing ≡ unknown
 cut-unknown Going standing f = absurd (f refl)
 cut-unknown Full standing f = refl
 cut-unknown Spent standing f = refl
 
-ended-cut : (standing : Standing) (m : Walk) → (m .1 .cut ≡ Going → ⊥) → ended standing m ≡ cutOff m
-ended-cut standing m f = ap (λ (s : Standing). endedAt s m) (cut-unknown (m .1 .cut) standing f)
+end-cut : (standing : Standing) (m : Walk) → (m .1 .cut ≡ Going → ⊥) → endWhere standing m ≡ cutOff m
+end-cut standing m f = ap (λ (s : Standing). endTelling s m) (cut-unknown (m .1 .cut) standing f)
 
 -- ---- a Box that is opened
 
@@ -88,7 +88,7 @@ child-counts rules limit room levels held base size row m p h e =
 
 -- ---- the region from a position on
 
--- what does not change while a region is walked
+-- what does not change while a region is walkEnd
 pub record Place : Type 0 where
   pub rules : List ℕ
   pub bytes : List ℕ
@@ -147,11 +147,11 @@ module _ (p : Place) where
     abbrev here : Walk
     here = (t, state rows tries whole Going)
 
-    pub rest-end : length (p .bytes) ≤ at → rest at t rows tries whole ≡ ended noByte here
+    pub rest-end : length (p .bytes) ≤ at → rest at t rows tries whole ≡ endWhere noByte here
     rest-end h =
         ap (λ (vs : List Try). ends vs here)
         (records-end (p .rules) (boxTries (p .rules) (p .levels)) (p .levels) (p .parent) (left at) (p .base + at) rows (simp length-drop (omega arith)))
-        ∙ ap₂ ended (stands-none _) (run-none (p .limit) (p .room) here)
+        ∙ ap₂ endWhere (stands-none _) (run-none (p .limit) (p .room) here)
 
     -- the first try of what is left, and the others
     ahead : at < length (p .bytes) → (vs : List Try) × (outer at rows ≡ tryFrom at ∷ vs)
@@ -162,13 +162,13 @@ module _ (p : Place) where
     rest-cut h m e f =
         let a = ahead h in
         ap (λ (vs : List Try). ends vs here) (a .1)
-        ∙ ap (ended (stands (tryFrom at ∷ a .0)))
+        ∙ ap (endWhere (stands (tryFrom at ∷ a .0)))
         (run-cons (p .limit) (p .room) (tryFrom at) (a .0) here
         ∙ ap (λ (k : Walk). runs (a .0) k) e
         ∙ run-cut (p .limit) (p .room) (a .0) m f)
-        ∙ ended-cut (stands (tryFrom at ∷ a .0)) m f
+        ∙ end-cut (stands (tryFrom at ∷ a .0)) m f
 
-    pub rest-spent : at < length (p .bytes) → p .limit ≤ tries → rest at t rows tries whole ≡ (t, walked rows tries whole Spent Untold 0)
+    pub rest-spent : at < length (p .bytes) → p .limit ≤ tries → rest at t rows tries whole ≡ (t, walkEnd rows tries whole Spent Untold 0)
     rest-spent h g = rest-cut h (t, state rows tries whole Spent) (step-spent (p .limit) (p .room) (tryFrom at) t rows tries whole g) spent-going
 
     -- a record: its try gives m₁, and what stands inside it m₂
@@ -195,7 +195,7 @@ module _ (p : Place) where
       rest-record : rest at t rows tries whole ≡ ends after m₂
       rest-record =
           ap (λ (vs : List Try). ends vs here) parted
-          ∙ ap₂ ended stands-after
+          ∙ ap₂ endWhere stands-after
           (run-cons (p .limit) (p .room) (tryFrom at) (inner at r rows ++ after) here
           ∙ rw made (run-append (p .limit) (p .room) (inner at r rows) after m₁ ∙ rw (← ins)))
 
@@ -212,7 +212,7 @@ module _ (p : Place) where
 
       -- it is cut off inside
       rest-inside : (m₂ .1 .cut ≡ Going → ⊥) → rest at t rows tries whole ≡ cutOff m₂
-      rest-inside g = rest-record ∙ ap (ended (stands after)) (run-cut (p .limit) (p .room) after m₂ g) ∙ ended-cut (stands after) m₂ g
+      rest-inside g = rest-record ∙ ap (endWhere (stands after)) (run-cut (p .limit) (p .room) after m₂ g) ∙ end-cut (stands after) m₂ g
 
   -- ---- a try
 
@@ -228,7 +228,7 @@ module _ {p : Place} {at : ℕ} {t t₁ : List ℕ} {rows tries : ℕ} {f : Foun
   made : step (p .limit) (p .room) (tryFrom p at) (t, state rows tries whole Going) ≡ (t₁, counted rows (tries + 1) whole f)
   made = step-made (p .limit) (p .room) (tryFrom p at) t t₁ f rows tries whole (y .due) (y .gave)
 
-  pub full-turn : f ≡ NoRoom → rest p at t rows tries whole ≡ (t₁, walked rows (tries + 1) whole Full Untold 0)
+  pub full-turn : f ≡ NoRoom → rest p at t rows tries whole ≡ (t₁, walkEnd rows (tries + 1) whole Full Untold 0)
   full-turn e =
       rest-cut p at t rows tries whole (y .within) (t₁, state rows (tries + 1) whole Full)
       (made ∙ ap (λ (k : Found). (t₁, counted rows (tries + 1) whole k)) e) full-going
@@ -236,17 +236,17 @@ module _ {p : Place} {at : ℕ} {t t₁ : List ℕ} {rows tries : ℕ} {f : Foun
   some-left : 0 < length (left p at)
   some-left = let h = y .within in simp length-drop (omega arith)
 
-  pub stop-turn : {stop : Stop} {type : ℕ} → f ≡ Nothing stop type → rest p at t rows tries whole ≡ (t₁, walked rows (tries + 1) whole Going stop type)
+  pub stop-turn : {stop : Stop} {type : ℕ} → f ≡ Nothing stop type → rest p at t rows tries whole ≡ (t₁, walkEnd rows (tries + 1) whole Going stop type)
   stop-turn {stop} {type} e =
       let n = found-nothing (p .room) rows t t₁ stop type (tryFrom p at) (rw e at (y .gave)) in
       ap (λ (vs : List Try). ends p vs (t, state rows tries whole Going))
       (records-stop (p .rules) (boxTries (p .rules) (p .levels)) (p .levels) (p .parent) (left p at) (p .base + at) rows some-left (n .is))
-      ∙ ap₂ ended (stands-here (deepest - p .levels) (p .parent) (p .base + at) (length (left p at)) (headOf (p .rules) (left p at)) [] (n .is))
+      ∙ ap₂ endWhere (stands-here (deepest - p .levels) (p .parent) (p .base + at) (length (left p at)) (headOf (p .rules) (left p at)) [] (n .is))
       (run-cons (p .limit) (p .room) (tryFrom p at) [] (t, state rows tries whole Going)
       ∙ run-none (p .limit) (p .room) (step (p .limit) (p .room) (tryFrom p at) (t, state rows tries whole Going))
       ∙ made
       ∙ ap (λ (k : Found). (t₁, counted rows (tries + 1) whole k)) e)
-      ∙ ap₂ (λ (s : Stop) (k : ℕ). (t₁, walked rows (tries + 1) whole Going s k)) (sym (n .why)) (sym (n .bad))
+      ∙ ap₂ (λ (s : Stop) (k : ℕ). (t₁, walkEnd rows (tries + 1) whole Going s k)) (sym (n .why)) (sym (n .bad))
 
   module _ {h d z : ℕ} {b : Bool} (e : f ≡ Row h d z b) where
     seen : Hit (p .room) rows (tryFrom p at) h d z b

@@ -52,17 +52,17 @@ abbrev pub going : List ℕ → ℕ → ℕ → Bool → Walk
 going t rows tries whole = (t, state rows tries whole Going)
 
 -- the end of a region's walk: the counts, why the region stops, and its bad type
-abbrev pub walked : ℕ → ℕ → Bool → Cut → Stop → ℕ → Walked
-walked rows tries whole cut stop type =
+abbrev pub walkEnd : ℕ → ℕ → Bool → Cut → Stop → ℕ → Walked
+walkEnd rows tries whole cut stop type =
     record { rows = rows; tries = tries; whole = whole; cut = cut; stop = stop; «bad_type» = type }
 
--- a run of a region, by its end and what then stands there
-abbrev pub endedAt : Standing → Walk → List ℕ × Walked
-endedAt standing m = (m .0, walked (m .1 .rows) (m .1 .tries) (m .1 .whole) (m .1 .cut) (stopOf standing) (badTypeOf standing))
+-- the table and the end of a walk, of whose stop this is told
+abbrev pub endTelling : Standing → Walk → List ℕ × Walked
+endTelling told m = (m .0, walkEnd (m .1 .rows) (m .1 .tries) (m .1 .whole) (m .1 .cut) (stopOf told) (badTypeOf told))
 
--- which is told where nothing cuts the walk off
-abbrev pub ended : Standing → Walk → List ℕ × Walked
-ended standing m = endedAt (standingTold (m .1 .cut) standing) m
+-- the same where this stands, of which a walk that is cut off tells nothing
+abbrev pub endWhere : Standing → Walk → List ℕ × Walked
+endWhere standing m = endTelling (standingTold (m .1 .cut) standing) m
 
 -- what stands where a region with so many levels left stops, by its tries
 abbrev pub standsIn : ℕ → List Try → Standing
@@ -70,7 +70,7 @@ standsIn levels vs = standsAt (deepest - levels) vs
 
 -- its tries, run
 abbrev pub regionEnd : ℕ → ℕ → ℕ → List Try → Walk → List ℕ × Walked
-regionEnd limit room levels vs m = ended (standsIn levels vs) (run limit room vs m)
+regionEnd limit room levels vs m = endWhere (standsIn levels vs) (run limit room vs m)
 
 -- the tries of a region
 abbrev pub regionRun : List ℕ → List ℕ → ℕ → List ℕ → ℕ → ℕ → Walk → List ℕ × Walked

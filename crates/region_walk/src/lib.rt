@@ -3,7 +3,7 @@
 ghost use mathlib.Core.Path.{_≡_};
 ghost use Prim.Native.Nat.{_+_, _<_};
 ghost use Rattle.region_try.specs.Steps.{state};
-ghost use Rattle.region_walk.specs.Steps.{boundsOf, roomIn, Walkable, walked, going, regionRun, boxRun};
+ghost use Rattle.region_walk.specs.Steps.{boundsOf, roomIn, Walkable, walkEnd, going, regionRun, boxRun};
 use header_judge::version::NO_WORD;
 use header_judge::version::word_of;
 use region_try::Cut;
@@ -41,8 +41,8 @@ pub struct Walked {
     pub bad_type: u32,
 }
 
-fn ended(rows: u32, tries: u64, whole: bool, cut: Cut, stop: Stop, bad_type: u32) -> Walked
-    ensures { λ r. ⌜ r ≡ walked rows tries whole cut stop «bad_type» ⌝ }
+fn walk_end(rows: u32, tries: u64, whole: bool, cut: Cut, stop: Stop, bad_type: u32) -> Walked
+    ensures { λ r. ⌜ r ≡ walkEnd rows tries whole cut stop «bad_type» ⌝ }
 {
     Walked {
         rows: rows,
@@ -86,7 +86,7 @@ pub fn region_walk(
     let mut at: usize = 0;
     while at < bytes.len() {
         if bounds[LIMIT] <= tries {
-            return ended(rows, tries, whole, Cut::Spent, Stop::Untold, 0);
+            return walk_end(rows, tries, whole, Cut::Spent, Stop::Untold, 0);
         }
         let word = word_of(&bytes[at..]);
         if word != last {
@@ -107,10 +107,10 @@ pub fn region_walk(
         );
         match tried {
             Found::Nothing { stop, bad_type } => {
-                return ended(rows, tries, whole, Cut::Going, stop, bad_type);
+                return walk_end(rows, tries, whole, Cut::Going, stop, bad_type);
             }
             Found::NoRoom => {
-                return ended(rows, tries, whole, Cut::Full, Stop::Untold, 0);
+                return walk_end(rows, tries, whole, Cut::Full, Stop::Untold, 0);
             }
             Found::Row {
                 held,
@@ -139,7 +139,7 @@ pub fn region_walk(
                     match cut {
                         Cut::Going => {}
                         _ => {
-                            return ended(
+                            return walk_end(
                                 inner.rows,
                                 inner.tries,
                                 inner.whole,
@@ -157,7 +157,7 @@ pub fn region_walk(
             }
         }
     }
-    ended(rows, tries, whole, Cut::Going, Stop::EndOfInput, 0)
+    walk_end(rows, tries, whole, Cut::Going, Stop::EndOfInput, 0)
 }
 
 // What stands inside a Box whose row is `row`. It is opened where a level is left and its header is held.

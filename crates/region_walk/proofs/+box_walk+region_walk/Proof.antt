@@ -27,7 +27,7 @@ use Rattle.region_walk.proofs.region_walk.Kinds as region-walk-kinds
 use Rattle.region_walk.proofs.+box_walk+region_walk.Lts-region_walk as region
 use Rattle.header_judge.proofs.version.word_of.Reads as word-of-reads
 use Rattle.region_walk.proofs.counts.Reads as counts-reads
-use Rattle.region_walk.proofs.ended.Reads as ended-reads
+use Rattle.region_walk.proofs.walk_end.Reads as walk-end-reads
 use Rattle.region_try.proofs.try_at.Reads as try-at-reads
 use Rattle.rules.proofs.columns.flags.Reads as flags-reads
 use Rattle.region_walk.proofs.+box_walk+region_walk.{statement}
@@ -118,8 +118,8 @@ abbrev μ-loop : region.MeasureT-loop
 
 abbrev RegionCalls : ℕ → region.Claims
 RegionCalls t = (
-  ended-reads.Asked,
-  ended-reads.Learnt,
+  walk-end-reads.Asked,
+  walk-end-reads.Learnt,
   word-of-reads.Asked,
   word-of-reads.Learnt,
   flags-reads.Asked,
@@ -185,7 +185,7 @@ module _ (t : ℕ) where
       let looped = c .before .before .before .before in
       let s = looped .before .before .before in
       let l = looped .loop in
-      rw (c .ended .ensures) (sym (l .inv .ends ∙ rest-spent (place t s) (l .at) (l .spans) (l .rows) (l .tries) (l .whole) (omega arith) (omega arith)))
+      rw (c .walk-end .ensures) (sym (l .inv .ends ∙ rest-spent (place t s) (l .at) (l .spans) (l .rows) (l .tries) (l .whole) (omega arith) (omega arith)))
 
   try-at-requires : InRegion region.Need-try-at-requires t
   try-at-requires c κs =
@@ -198,13 +198,13 @@ module _ (t : ℕ) where
       let stopped = c .before .before in
       let y = stopped .before .before .before .before in
       let l = loop t y .loop in
-      rw (c .ended2 .ensures) (sym (l .inv .ends ∙ stop-turn (turn t y) (l .whole) (stopped .tried .given .1)))
+      rw (c .walk-end2 .ensures) (sym (l .inv .ends ∙ stop-turn (turn t y) (l .whole) (stopped .tried .given .1)))
 
   returns-3 : InRegion region.Need-returns-3 t
   returns-3 c =
       let y = c .before .before .before .before .before in
       let l = loop t y .loop in
-      rw (c .ended3 .ensures) (sym (l .inv .ends ∙ full-turn (turn t y) (l .whole) (c .before .enum-told .given .1)))
+      rw (c .walk-end3 .ensures) (sym (l .inv .ends ∙ full-turn (turn t y) (l .whole) (c .before .enum-told .given .1)))
 
   -- a record was found: its try, and what is known of it
   abbrev tried : InRegion region.After-tried2 t → InRegion region.After-try-at t
@@ -252,7 +252,7 @@ module _ (t : ℕ) where
       let d = boxed walked in
       let l = loop t (tried d) .loop in
       let i = walked .box-walk in
-      rw (c .ended4 .ensures) (sym (l .inv .ends
+      rw (c .walk-end4 .ensures) (sym (l .inv .ends
       ∙ box-cut (turn t (tried d)) (l .whole) (d .tried2 .given .1) (walked .before .before .before .if3 .taken) (i .ensures) (tag-cut (i .result .cut) (c .before .match2 .keys2))))
 
   sizes : (c : InRegion region.After-tried2 t) → let r = c .tried2 .given .0 in (0 < r .1 .0) × (r .1 .0 ≤ 524280) × (0 < r .1 .1 .0) × (r .1 .1 .0 ≤ 536)
@@ -287,7 +287,7 @@ module _ (t : ℕ) where
   returns-5 c =
       let s = c .before .before .before .before .before in
       let l = c .before .before .loop in
-      rw (c .ended5 .ensures) (sym (l .inv .ends ∙ rest-end (place t s) (l .at) (l .spans) (l .rows) (l .tries) (l .whole) (omega arith)))
+      rw (c .walk-end5 .ensures) (sym (l .inv .ends ∙ rest-end (place t s) (l .at) (l .spans) (l .rows) (l .tries) (l .whole) (omega arith)))
 
 pub +box-walk+region-walk-spec : {M : Type 1} → statement M
 +box-walk+region-walk-spec =
