@@ -1,6 +1,7 @@
 /*
  * Tries the C interface: round trips of headers, the refusals, what is told with each answer, the endings, why a region stops,
- * CPERs, names and Intel's rules. Prints nothing and ends with status 0 when all is as include/crashlog.h says.
+ * when a listing is whole, CPERs, names and Intel's rules. Prints nothing and ends with status 0 when all is as
+ * include/crashlog.h says.
  */
 #include <stdio.h>
 #include <stdlib.h>
@@ -323,20 +324,23 @@ static void listings(void)
     EXPECT(spans[CRASHLOG_SPAN_WORDS] == 0xaaaaaaaa);
 }
 
-/* What may stand where a region stops, why it then stops, and the answer where no record stands before it. */
+/*
+ * What may stand where a region stops, why it then stops, whether a listing may be whole with it, and the answer where no
+ * record stands before it.
+ */
 static const struct tail {
     uint8_t bytes[8];
-    uint64_t length, stop;
+    uint64_t length, stop, whole;
     uint32_t answer;
 } tails[] = {
-    {{0}, 0, CRASHLOG_STOP_END_OF_INPUT, CRASHLOG_EMPTY_REGION},
-    {{0}, 4, CRASHLOG_STOP_ZERO_WORD, CRASHLOG_EMPTY_REGION},
-    {{0xef, 0xbe, 0xad, 0xde}, 4, CRASHLOG_STOP_DEADBEEF_WORD, CRASHLOG_EMPTY_REGION},
-    {{0}, 3, CRASHLOG_STOP_FEW_BYTES, CRASHLOG_EMPTY_REGION},
-    {{0xef, 0xbe, 0xad}, 3, CRASHLOG_STOP_FEW_BYTES, CRASHLOG_EMPTY_REGION},
-    {{0x01, 0x31, 0x12, 0x03, 0x02}, 5, CRASHLOG_STOP_BAD_HEADER, CRASHLOG_BAD_HEADER},
-    {{0x01, 0x37, 0x12, 0x03, 0x02}, 8, CRASHLOG_STOP_BAD_HEADER, CRASHLOG_BAD_TYPE},
-    {{0x01, 0x31, 0x12, 0x03}, 8, CRASHLOG_STOP_SIZE_ZERO, CRASHLOG_EMPTY_REGION},
+    {{0}, 0, CRASHLOG_STOP_END_OF_INPUT, 1, CRASHLOG_EMPTY_REGION},
+    {{0}, 4, CRASHLOG_STOP_ZERO_WORD, 1, CRASHLOG_EMPTY_REGION},
+    {{0xef, 0xbe, 0xad, 0xde}, 4, CRASHLOG_STOP_DEADBEEF_WORD, 1, CRASHLOG_EMPTY_REGION},
+    {{0}, 3, CRASHLOG_STOP_FEW_BYTES, 0, CRASHLOG_EMPTY_REGION},
+    {{0xef, 0xbe, 0xad}, 3, CRASHLOG_STOP_FEW_BYTES, 0, CRASHLOG_EMPTY_REGION},
+    {{0x01, 0x31, 0x12, 0x03, 0x02}, 5, CRASHLOG_STOP_BAD_HEADER, 0, CRASHLOG_BAD_HEADER},
+    {{0x01, 0x37, 0x12, 0x03, 0x02}, 8, CRASHLOG_STOP_BAD_HEADER, 0, CRASHLOG_BAD_TYPE},
+    {{0x01, 0x31, 0x12, 0x03}, 8, CRASHLOG_STOP_SIZE_ZERO, 0, CRASHLOG_EMPTY_REGION},
 };
 
 /* A tail alone, and after a record: whole, without room, and with one try too few. */
@@ -351,14 +355,14 @@ static void stops_at(const struct tail *tail)
     EXPECT(told_listing(0, tries, tail->answer == CRASHLOG_BAD_TYPE ? 7 : 0, 0, tail->stop));
     memcpy(region + 8, tail->bytes, tail->length);
     EXPECT(list(region, length, NULL, 0, 1 + tries, spans, one) == CRASHLOG_DONE);
-    EXPECT(told_listing(1, 1 + tries, 0, 1, tail->stop));
+    EXPECT(told_listing(1, 1 + tries, 0, tail->whole, tail->stop));
     EXPECT(list(region, length, NULL, 0, 9, spans, one - 1) == CRASHLOG_SPANS_FULL);
     EXPECT(told_listing(0, 1, 0, 0, CRASHLOG_STOP_UNTOLD));
     EXPECT(list(region, length, NULL, 0, tries, spans, one) == CRASHLOG_TRIES_SPENT);
     EXPECT(told_listing(tries, tries, 0, 0, CRASHLOG_STOP_UNTOLD));
 }
 
-/* A Box that holds a record and a tail, with a tail after it: why the Box stops is not told. */
+/* A Box that holds a record and a tail, with a tail after it: of why the Box stops only `whole` tells. */
 static void stops_apart(const struct tail *inner, const struct tail *outer)
 {
     static const uint32_t rules[] = {0, 0, CRASHLOG_SIZES_IN_BYTES};
@@ -370,7 +374,7 @@ static void stops_apart(const struct tail *inner, const struct tail *outer)
     memcpy(region + 16, inner->bytes, inner->length);
     memcpy(region + box, outer->bytes, outer->length);
     EXPECT(list(region, box + outer->length, rules, 3, 9, spans, 2 * CRASHLOG_SPAN_WORDS) == CRASHLOG_DONE);
-    EXPECT(told_listing(2, tries, 0, 1, outer->stop));
+    EXPECT(told_listing(2, tries, 0, inner->whole && outer->whole, outer->stop));
 }
 
 static void stops(void)
@@ -386,6 +390,39 @@ static void stops(void)
     }
     EXPECT(list(cut, sizeof cut, NULL, 0, 9, spans, CRASHLOG_SPAN_WORDS) == CRASHLOG_DONE);
     EXPECT(told_listing(1, 1, 0, 0, CRASHLOG_STOP_END_OF_INPUT));
+}
+
+/* What a region may hold, in so many rows, and on how many levels, counted from the top, no listing with it is whole. */
+static const struct content {
+    uint8_t bytes[12];
+    uint64_t length, rows, spoils;
+} contents[] = {
+    {{0x01, 0x31, 0x12, 0x03, 0x03}, 8, 1, 5},           /* a record that is cut short */
+    {{0x01, 0x31, 0x12, 0x3d, 0x03}, 8, 1, 5},           /* a Box that is */
+    {{0x01, 0x31, 0x12, 0x3d, 0x02}, 8, 1, 0},           /* a Box with nothing after its header */
+    {{0x01, 0x31, 0x12, 0x3d, 0x01, [8] = 2}, 12, 2, 4}, /* a Box that declares 4 bytes: a record starts at its size */
+    {{0x01, 0x31, 0x12, 0x03, 0x01, [8] = 2}, 12, 2, 0}, /* the same, and no Box */
+};
+
+/* Such a content in so many Boxes. */
+static void whole_in(uint64_t boxes, const struct content *content)
+{
+    uint8_t region[4 * 8 + sizeof content->bytes];
+    uint32_t spans[6 * CRASHLOG_SPAN_WORDS];
+    const uint64_t length = 8 * boxes + content->length, rows = boxes + content->rows;
+
+    for (uint64_t at = 0; at < 8 * boxes; at += 8)
+        memcpy(region + at, (uint8_t[8]){0x01, 0x31, 0x12, 0x3d, (uint8_t)((length - at) / 4)}, 8);
+    memcpy(region + 8 * boxes, content->bytes, content->length);
+    EXPECT(list(region, length, NULL, 0, 9, spans, sizeof spans / sizeof spans[0]) == CRASHLOG_DONE);
+    EXPECT(told_listing(rows, rows, 0, content->spoils <= boxes, CRASHLOG_STOP_END_OF_INPUT));
+}
+
+static void wholes(void)
+{
+    for (size_t i = 0; i < sizeof contents / sizeof contents[0]; i++)
+        for (uint64_t boxes = 0; boxes <= 4; boxes++)
+            whole_in(boxes, &contents[i]);
 }
 
 /* Two sections, of which the second lies past the end of the input. */
@@ -511,6 +548,7 @@ int main(void)
     worked_headers();
     listings();
     stops();
+    wholes();
     cpers();
     names();
     intel_rules();

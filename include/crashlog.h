@@ -126,12 +126,16 @@ extern "C" {
 #define CRASHLOG_SECTION_OFFSET 1 /* of its body, in the CPER */
 #define CRASHLOG_SECTION_LENGTH 2 /* of its body */
 
-/* What a listing tells. */
+/*
+ * What a listing tells. It is whole when the answer is CRASHLOG_DONE, every row holds what it declares, every Box on levels 0
+ * to 3 holds all of its header, and the region and those in such Boxes stopped at their end or at a zero or 0xdeadbeef
+ * word.
+ */
 typedef struct {
     uint64_t rows;     /* rows written, from the table's start */
     uint64_t tries;    /* headers tried */
     uint64_t bad_type; /* with CRASHLOG_BAD_TYPE, else 0 */
-    uint64_t whole;    /* 1 when the answer is CRASHLOG_DONE and every row holds what it declares, else 0 */
+    uint64_t whole;    /* 1 when the listing is whole, else 0 */
     uint64_t stop;     /* why the region stopped; why a Box in it did is not told */
 } crashlog_listing;
 

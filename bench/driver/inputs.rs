@@ -156,6 +156,28 @@ pub const STOPS: [(&[u8], u64); 7] = [
     (&[0x01, 0x31, 0x12, 0x03, 0, 0, 0, 0], 6),
 ];
 
+/// Rules by which the size of a Box counts bytes.
+pub const BOX_BYTES: [u32; 3] = [0x3f00_0000, BOX << 24, 8];
+
+/// A Box around bytes of any length, for those rules.
+pub fn box_of(inner: &[u8]) -> Vec<u8> {
+    let mut bytes = [&[0x01, 0x31, 0x12, 0x3d, 0, 0, 0, 0], inner].concat();
+    let size = bytes.len();
+    put16(&mut bytes, 4, size);
+    bytes
+}
+
+/// What a region may hold, for those rules, and on how many levels, counted from the top, no listing with it is whole: a record
+/// that is cut short, a Box that is, a Box with nothing after its header, a Box that declares 4 bytes, so that a record starts
+/// at its size, and the same that is no Box.
+pub const CONTENTS: [(&[u8], usize); 5] = [
+    (&[0x01, 0x31, 0x12, 0x03, 3, 0, 0, 0], 5),
+    (&[0x01, 0x31, 0x12, 0x3d, 9, 0, 0, 0], 5),
+    (&[0x01, 0x31, 0x12, 0x3d, 8, 0, 0, 0], 0),
+    (&[0x01, 0x31, 0x12, 0x3d, 4, 0, 0, 0, 2, 0, 0, 0], 4),
+    (&[0x01, 0x31, 0x12, 0x03, 1, 0, 0, 0, 2, 0, 0, 0], 0),
+];
+
 /// How many sections with bodies of 32 bytes a CPER of a length has.
 pub fn sections_in(len: usize) -> usize {
     (len - 128) / (72 + 32)

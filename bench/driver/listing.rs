@@ -1,5 +1,5 @@
 //! The listing of a region.
-use crate::inputs::{self, MIB, RECORD, STOPS};
+use crate::inputs::{self, BOX_BYTES, CONTENTS, MIB, RECORD, STOPS};
 use crate::library::{Library, Listing, PLAIN, PROVED};
 use crate::rust;
 use crate::sample::{C, Candidate, LIBRARY, Times, sample};
@@ -46,6 +46,21 @@ pub fn check_stops() {
         for region in [tail.to_vec(), [&RECORD, tail].concat()] {
             let ((_, listing), _) = listed(&region, &[], &mut spans);
             assert_eq!(listing.stop, stop);
+        }
+    }
+}
+
+/// When a listing is whole: each stop after a record, and each of the contents, at the top and in one to five Boxes, of which
+/// the fifth is not opened.
+pub fn check_whole() {
+    let stops = STOPS.map(|(tail, stop)| ([&RECORD, tail].concat(), if stop <= 3 { 0 } else { 5 }));
+    let contents = CONTENTS.map(|(bytes, spoils)| (bytes.to_vec(), spoils));
+    let mut spans = [0; 8 * span::WORDS];
+    for (mut region, spoils) in stops.into_iter().chain(contents) {
+        for boxes in 0..=5 {
+            let ((answer, listing), _) = listed(&region, &BOX_BYTES, &mut spans);
+            assert_eq!((answer, listing.whole == 1), (0, spoils <= boxes));
+            region = inputs::box_of(&region);
         }
     }
 }

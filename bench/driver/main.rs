@@ -22,6 +22,7 @@ mod targets;
 
 fn main() {
     listing::check_stops();
+    listing::check_whole();
     headers::check_endings();
     let rules = library::intel_rules();
     let tables = [Vec::new(), rules.clone(), inputs::padded(&rules, 64)];

@@ -31,6 +31,12 @@ static void put_span(uint32_t *span, uint32_t level, uint32_t parent, uint32_t o
     span[CRASHLOG_SPAN_FLAGS] = flags;
 }
 
+/* Whether a region of a whole listing may stop so: at its end, or at a word 0 or 0xdeadbeef. */
+static bool clean(uint32_t stop)
+{
+    return stop <= CRASHLOG_STOP_DEADBEEF_WORD;
+}
+
 /* Gives what stopped it. The flags of the last version word are remembered, as the library does it. */
 static uint32_t walk_region(struct walk *walk, const uint8_t *bytes, size_t len, uint32_t base, uint32_t level,
                             uint32_t parent)
@@ -61,11 +67,17 @@ static uint32_t walk_region(struct walk *walk, const uint8_t *bytes, size_t len,
         put_span(walk->spans + (size_t)row * CRASHLOG_SPAN_WORDS, level, parent, offset, held, frame, word, flags);
         if (held < frame.declared)
             walk->whole = false;
-        if (is_box(word, flags) && level < DEEPEST && frame.size < held) {
-            uint32_t stop =
-                walk_region(walk, record + frame.size, held - frame.size, offset + frame.size, level + 1, row);
-            if (stop >= FULL)
-                return stop;
+        if (is_box(word, flags) && level < DEEPEST) {
+            if (frame.size < held) {
+                uint32_t stop =
+                    walk_region(walk, record + frame.size, held - frame.size, offset + frame.size, level + 1, row);
+                if (stop >= FULL)
+                    return stop;
+                if (!clean(stop))
+                    walk->whole = false;
+            } else if (held < frame.size) {
+                walk->whole = false;
+            }
         }
     }
     return CRASHLOG_STOP_END_OF_INPUT;
@@ -105,7 +117,7 @@ uint32_t plain_list(const uint8_t *region, uint64_t region_len, const uint32_t *
         return CRASHLOG_TRIES_SPENT;
     told->stop = stop;
     if (walk.rows > 0) {
-        told->whole = walk.whole;
+        told->whole = walk.whole && clean(stop);
         return CRASHLOG_DONE;
     }
     if (stop != CRASHLOG_STOP_BAD_HEADER)

@@ -16,7 +16,8 @@ pub enum Call {
     IntelRules,
 }
 
-/// Where the answer comes from. Why a region stopped and how records ended comes from document 02, by `stops`.
+/// Where the answer comes from. Why a region stopped and how records ended comes from document 02, by `stops`, and so does
+/// `whole`, by `expected`.
 #[derive(Clone, Copy, Debug, PartialEq, Eq)]
 pub enum Source {
     Rust = 1,
@@ -68,6 +69,11 @@ impl Case {
     /// Why the region stopped, or how the records ended, by its number; other calls tell neither.
     pub fn stop(&self) -> Option<u64> {
         matches!(self.call, Call::Listings | Call::Headers).then_some(self.told[5])
+    }
+
+    /// Whether the listing is whole, where the answer is 0.
+    pub fn whole(&self) -> Option<bool> {
+        (self.call == Call::Listings && self.answer() == 0).then_some(self.told[4] == 1)
     }
 
     /// The case as text, with its whole input.

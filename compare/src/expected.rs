@@ -105,13 +105,21 @@ pub fn cut(walk: &Walk, limit: u64, room: usize) -> Cut {
             cut.rows.push(*row);
         }
     }
-    cut.stop = walk.stop;
+    cut.stop = walk.stops[0];
     match walk.outcome {
         Outcome::BadHeader => Cut { answer: BAD_HEADER, ..cut },
         Outcome::BadType(header_type) => Cut { answer: BAD_TYPE, bad_type: header_type as u64, ..cut },
         Outcome::Empty => Cut { answer: EMPTY_REGION, ..cut },
-        Outcome::Records => Cut { whole: cut.rows.iter().all(|row| row.held == row.declared), ..cut },
+        Outcome::Records => Cut { whole: is_whole(walk), ..cut },
     }
+}
+
+/// Of a walk that found records (document 02, C-14): each row holds what it declares, each region stopped at its end or at a
+/// word that is an ending, and no Box was left unopened for its header.
+fn is_whole(walk: &Walk) -> bool {
+    let full = walk.steps.iter().flatten().all(|row| row.held == row.declared);
+    let clean = |stop: &u64| matches!(*stop, stops::END_OF_INPUT | stops::ZERO_WORD | stops::DEADBEEF_WORD);
+    full && walk.stops.iter().all(clean) && walk.unopened == 0
 }
 
 /// The dump's text: no rules, 512 rows, 81,920 tries, at most 65,535 bytes.

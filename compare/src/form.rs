@@ -46,7 +46,6 @@ struct Attempt {
 
 /// Walks a region from the top, and its children as `get_children` gives them.
 pub fn walk(bytes: &[u8]) -> Walk {
-    let stop = stops::of(bytes, header);
     form::probe::take_tries();
     let top = Region::from_slice(bytes);
     let start = bytes.as_ptr() as usize;
@@ -61,7 +60,8 @@ pub fn walk(bytes: &[u8]) -> Walk {
         Err(Error::EmptyRegion) => Outcome::Empty,
         Err(error) => panic!("no region gives this: {error}"),
     };
-    let mut walk = Walk { steps: Vec::new(), rows: 0, outcome, stop };
+    let mut walk = Walk { steps: Vec::new(), rows: 0, outcome, stops: Vec::new(), unopened: 0 };
+    note_stop(bytes, &tries, &mut walk);
     match &top {
         Ok(region) => follow(region, &tries, 0, NO_PARENT, &mut walk),
         Err(_) => walk.steps.extend(tries.iter().map(|_| None)),
@@ -69,10 +69,19 @@ pub fn walk(bytes: &[u8]) -> Walk {
     walk
 }
 
+/// Notes why a region stopped, whose own tries are given: it is its end exactly where the last of them gave a record.
+fn note_stop(bytes: &[u8], tries: &[Attempt], walk: &mut Walk) {
+    let stop = stops::of(bytes, header);
+    form::probe::take_tries();
+    assert_eq!(stop == stops::END_OF_INPUT, tries.last().is_none_or(|last| last.found));
+    walk.stops.push(stop);
+}
+
 /// Adds the steps of a region that has records, whose own tries are given: a record, its child's steps, the next record. A try
 /// belongs to the child of the record in whose bytes it lies.
 fn follow(region: &Region, tries: &[Attempt], level: u32, parent: u32, walk: &mut Walk) {
     let children = region.get_children();
+    walk.unopened += form::probe::take_unopened();
     let mut below = form::probe::take_tries().into_iter().peekable();
     let mut children = children.iter();
     let mut records = region.records.iter();
@@ -91,6 +100,9 @@ fn follow(region: &Region, tries: &[Attempt], level: u32, parent: u32, walk: &mu
         let mut inner = Vec::new();
         while let Some(tried) = below.next_if(|tried| (start..end).contains(&tried.address)) {
             inner.push(Attempt { offset: attempt.offset + tried.address - start, found: tried.found });
+        }
+        if !inner.is_empty() {
+            note_stop(&record.data[record.header.header_size()..], &inner, walk);
         }
         if inner.iter().any(|attempt| attempt.found) {
             follow(children.next().unwrap(), &inner, level + 1, row, walk);

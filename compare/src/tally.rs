@@ -14,6 +14,8 @@ struct Count {
     differing: u64,
     /// By the number of the reason to stop or the ending that must be told.
     stops: [u64; stops::NAMES.len()],
+    /// Listings with answer 0 that must not be whole, and those that must.
+    whole: [u64; 2],
 }
 
 pub struct Tally {
@@ -50,6 +52,9 @@ impl Tally {
             if let Some(stop) = case.stop() {
                 self.kinds.entry(kind).or_default().stops[stop as usize] += 1;
             }
+            if let Some(whole) = case.whole() {
+                self.kinds.entry(kind).or_default().whole[whole as usize] += 1;
+            }
         }
     }
 
@@ -80,6 +85,7 @@ impl Tally {
         }
         println!("{:<24} {:>10} {:>10}", "all", self.cases(), self.differing());
         self.print_stops();
+        self.print_whole();
     }
 
     /// How often each reason to stop or ending was to be told, of the kinds that tell one.
@@ -87,6 +93,14 @@ impl Tally {
         println!("{:<24} {}", "stops and endings", stops::NAMES.map(|name| format!("{name:>12}")).join(" "));
         for (kind, count) in self.kinds.iter().filter(|(_, count)| count.stops != [0; stops::NAMES.len()]) {
             println!("{kind:<24} {}", count.stops.map(|times| format!("{times:>12}")).join(" "));
+        }
+    }
+
+    /// How many listings with answer 0 were to be whole, of the kinds that have any.
+    fn print_whole(&self) {
+        println!("{:<24} {:>10} {:>10}", "listings with answer 0", "whole", "not whole");
+        for (kind, count) in self.kinds.iter().filter(|(_, count)| count.whole != [0; 2]) {
+            println!("{kind:<24} {:>10} {:>10}", count.whole[1], count.whole[0]);
         }
     }
 }

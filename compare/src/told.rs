@@ -32,8 +32,10 @@ pub struct Walk {
     pub steps: Vec<Option<Span>>,
     pub rows: u32,
     pub outcome: Outcome,
-    /// Why the top region stopped, by its number.
-    pub stop: u64,
+    /// Why each region stopped, by its number, the top one first. An empty one in a Box, which stops at its end, is left out.
+    pub stops: Vec<u64>,
+    /// Boxes below level 4 that were left unopened, since their header exceeds their bytes.
+    pub unopened: usize,
 }
 
 /// A row of the section table: descriptor index, body offset, body length.

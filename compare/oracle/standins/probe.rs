@@ -1,6 +1,6 @@
 //! What the probes note, on each thread by itself, until it is taken.
 
-use std::cell::RefCell;
+use std::cell::{Cell, RefCell};
 use std::mem;
 
 /// One call of `Header::from_slice`: where its slice starts in memory, and whether the region walk made a record of it.
@@ -20,6 +20,7 @@ pub struct Kept {
 
 thread_local! {
     static TRIES: RefCell<Vec<Try>> = const { RefCell::new(Vec::new()) };
+    static UNOPENED: Cell<usize> = const { Cell::new(0) };
     static KEPT: RefCell<Vec<Kept>> = const { RefCell::new(Vec::new()) };
 }
 
@@ -33,6 +34,11 @@ pub fn found() {
     TRIES.with_borrow_mut(|tries| tries.last_mut().unwrap().found = true);
 }
 
+/// A Box is left unopened.
+pub fn unopened() {
+    UNOPENED.set(UNOPENED.get() + 1);
+}
+
 pub fn kept(index: u16, offset: usize, end: usize) {
     let (index, offset, length) = (index as u32, offset as u32, (end - offset) as u32);
     KEPT.with_borrow_mut(|kept| kept.push(Kept { index, offset, length }));
@@ -41,6 +47,11 @@ pub fn kept(index: u16, offset: usize, end: usize) {
 /// The tries since this was last called.
 pub fn take_tries() -> Vec<Try> {
     TRIES.with_borrow_mut(mem::take)
+}
+
+/// The Boxes left unopened since this was last called.
+pub fn take_unopened() -> usize {
+    UNOPENED.take()
 }
 
 /// The kept sections since this was last called.

@@ -4,6 +4,7 @@
 mod boundaries;
 mod sample;
 mod stops;
+mod whole;
 mod worked;
 
 use crate::case::{Call, Case};
@@ -30,6 +31,7 @@ pub fn list() -> Vec<Case> {
     let mut cases = worked::list();
     cases.extend(boundaries::list());
     cases.extend(stops::list());
+    cases.extend(whole::list());
     cases.extend(sample::list());
     cases
 }

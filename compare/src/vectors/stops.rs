@@ -1,5 +1,5 @@
-//! How records end and why a region stops (document 02, C-12): answers and reasons are written out by hand, and what the Rust
-//! and `crate::stops` say must be the same.
+//! How records end and why a region stops (document 02, C-12): answers, reasons and `whole` are written out by hand, and what
+//! `expected` says, by the Rust and `crate::stops`, must be the same.
 
 use crate::case::Case;
 use crate::expected::{self, BAD_RULES, BAD_TYPE, DONE, EMPTY_REGION, ENDED, SPANS_FULL, TRIES_SPENT};
@@ -9,9 +9,9 @@ use crate::span;
 use crate::stops::{BAD_HEADER, DEADBEEF_WORD, END_OF_INPUT, FEW_BYTES, SIZE_ZERO, UNTOLD, ZERO_WORD};
 use std::rc::Rc;
 
-const PUNIT: u32 = 3;
+pub const PUNIT: u32 = 3;
+pub const AMPLE: u64 = 1000;
 const MARK: u32 = 0xdead_beef;
-const AMPLE: u64 = 1000;
 
 pub fn list() -> Vec<Case> {
     let mut cases = Vec::new();
@@ -22,14 +22,10 @@ pub fn list() -> Vec<Case> {
     cases
 }
 
-/// The case, which must tell that answer, and that reason or ending.
-fn telling(case: Case, answer: u64, stop: u64) -> Case {
-    assert_eq!((case.answer(), case.stop()), (answer, Some(stop)), "{}", case.describe());
-    case
-}
-
 fn header(rules: &[u32], bytes: &[u8], answer: u64, ending: u64) -> Case {
-    telling(expected::header(&Rc::from(rules), &Rc::from(bytes)), answer, ending)
+    let case = expected::header(&Rc::from(rules), &Rc::from(bytes));
+    assert_eq!((case.answer(), case.stop()), (answer, Some(ending)), "{}", case.describe());
+    case
 }
 
 /// Each ending, at its bounds and with bytes after it, whatever the rules; a bad table comes before it.
@@ -56,43 +52,56 @@ fn words_near_an_ending(cases: &mut Vec<Case>) {
 }
 
 /// What may stand where a region stops.
-struct Tail {
-    bytes: Vec<u8>,
-    stop: u64,
+pub struct Tail {
+    pub bytes: Vec<u8>,
+    pub stop: u64,
+    /// Whether a listing with a region that stops so may be whole.
+    pub whole: bool,
     /// The answer where no record stands before it.
     alone: u64,
 }
 
-fn tails() -> Vec<Tail> {
-    let tail = |bytes: &[u8], stop, alone| Tail { bytes: bytes.to_vec(), stop, alone };
+pub fn tails() -> Vec<Tail> {
+    let tail = |bytes: &[u8], stop, whole, alone| Tail { bytes: bytes.to_vec(), stop, whole, alone };
     let bad_type = word(1, 7, 0x123, PUNIT).to_le_bytes();
     vec![
-        tail(&[], END_OF_INPUT, EMPTY_REGION),
-        tail(&[0; 4], ZERO_WORD, EMPTY_REGION),
-        tail(&[0, 0, 0, 0, 2], ZERO_WORD, EMPTY_REGION),
-        tail(&MARK.to_le_bytes(), DEADBEEF_WORD, EMPTY_REGION),
-        tail(&[1], FEW_BYTES, EMPTY_REGION),
-        tail(&[0; 3], FEW_BYTES, EMPTY_REGION),
-        tail(&MARK.to_le_bytes()[..3], FEW_BYTES, EMPTY_REGION),
-        tail(&record(PUNIT, &[])[..7], BAD_HEADER, expected::BAD_HEADER),
-        tail(&[bad_type, [8, 0, 0, 0]].concat(), BAD_HEADER, BAD_TYPE),
-        tail(&regions::small_record(PUNIT, 0), SIZE_ZERO, EMPTY_REGION),
+        tail(&[], END_OF_INPUT, true, EMPTY_REGION),
+        tail(&[0; 4], ZERO_WORD, true, EMPTY_REGION),
+        tail(&[0, 0, 0, 0, 2], ZERO_WORD, true, EMPTY_REGION),
+        tail(&MARK.to_le_bytes(), DEADBEEF_WORD, true, EMPTY_REGION),
+        tail(&[1], FEW_BYTES, false, EMPTY_REGION),
+        tail(&[0; 3], FEW_BYTES, false, EMPTY_REGION),
+        tail(&MARK.to_le_bytes()[..3], FEW_BYTES, false, EMPTY_REGION),
+        tail(&record(PUNIT, &[])[..7], BAD_HEADER, false, expected::BAD_HEADER),
+        tail(&[bad_type, [8, 0, 0, 0]].concat(), BAD_HEADER, false, BAD_TYPE),
+        tail(&regions::small_record(PUNIT, 0), SIZE_ZERO, false, EMPTY_REGION),
     ]
 }
 
-/// A record with those bytes after a header of 8. Its size counts bytes, as in every region here.
-fn record(record_type: u32, body: &[u8]) -> Vec<u8> {
+/// A record with those bytes after a header of 8. Its size counts bytes.
+pub fn record(record_type: u32, body: &[u8]) -> Vec<u8> {
     let mut bytes = [&regions::small_record(record_type, 0), body].concat();
     let declared = bytes.len();
     regions::put_sizes(&mut bytes, 8, declared);
     bytes
 }
 
+/// What a listing must tell: its answer, whether it is whole, and why it stopped.
+pub type Told = (u64, bool, u64);
+
+/// A listing with room for so many rows, where sizes count bytes.
+pub fn listing(region: &[u8], limit: u64, room: usize, told: Told) -> Case {
+    listing_under(&rule_tables::always(8), region, limit, room, told)
+}
+
 /// A listing with room for so many rows.
-fn listing(region: &[u8], limit: u64, room: usize, answer: u64, stop: u64) -> Case {
-    let (rules, region): (Rc<[u32]>, Rc<[u8]>) = (Rc::from(rule_tables::always(8)), Rc::from(region));
+pub fn listing_under(rules: &[u32], region: &[u8], limit: u64, room: usize, told: Told) -> Case {
+    let (rules, region): (Rc<[u32]>, Rc<[u8]>) = (Rc::from(rules), Rc::from(region));
     let walk = expected::walk(&rules, &region);
-    telling(expected::listing(&rules, &region, &walk, limit, room * span::WORDS), answer, stop)
+    let case = expected::listing(&rules, &region, &walk, limit, room * span::WORDS);
+    let [answer, _, _, _, whole, stop] = case.told;
+    assert_eq!((answer, whole == 1, stop), told, "{}", case.describe());
+    case
 }
 
 /// Each reason without a record, and after a record: whole, with one try too few, and without room. A record that is cut short
@@ -102,13 +111,13 @@ fn records(cases: &mut Vec<Case>) {
     for tail in tails() {
         let region = [&punit, &tail.bytes[..]].concat();
         let tries = 1 + !tail.bytes.is_empty() as u64;
-        cases.push(listing(&tail.bytes, AMPLE, 10, tail.alone, tail.stop));
-        cases.push(listing(&region, tries, 1, DONE, tail.stop));
-        cases.push(listing(&region, tries - 1, 1, TRIES_SPENT, UNTOLD));
-        cases.push(listing(&region, tries, 0, SPANS_FULL, UNTOLD));
+        cases.push(listing(&tail.bytes, AMPLE, 10, (tail.alone, false, tail.stop)));
+        cases.push(listing(&region, tries, 1, (DONE, tail.whole, tail.stop)));
+        cases.push(listing(&region, tries - 1, 1, (TRIES_SPENT, false, UNTOLD)));
+        cases.push(listing(&region, tries, 0, (SPANS_FULL, false, UNTOLD)));
     }
     for body in 1..=4 {
-        cases.push(listing(&record(PUNIT, &vec![0; body])[..8], AMPLE, 10, DONE, END_OF_INPUT));
+        cases.push(listing(&record(PUNIT, &vec![0; body])[..8], AMPLE, 10, (DONE, false, END_OF_INPUT)));
     }
 }
 
@@ -119,9 +128,9 @@ fn boxes(cases: &mut Vec<Case>) {
         let held = [record(PUNIT, &[]), inner.bytes.clone()].concat();
         for outer in tails() {
             let region = [record(BOX, &held), outer.bytes].concat();
-            cases.push(listing(&region, AMPLE, 10, DONE, outer.stop));
+            cases.push(listing(&region, AMPLE, 10, (DONE, inner.whole && outer.whole, outer.stop)));
         }
         let nest = (0..4).fold(inner.bytes, |bytes, _| record(BOX, &bytes));
-        cases.push(listing(&[&nest[..], &MARK.to_le_bytes()].concat(), AMPLE, 10, DONE, DEADBEEF_WORD));
+        cases.push(listing(&[&nest[..], &MARK.to_le_bytes()].concat(), AMPLE, 10, (DONE, inner.whole, DEADBEEF_WORD)));
     }
 }

@@ -3,7 +3,7 @@
 use mathlib.Core.Path.{_≡_, refl, ap, sym, _∙_}
 use mathlib.Core.List.{List, [], _∷_}
 use mathlib.Core.Logic.{⊎-elim}
-use mathlib.Core.Bool.{Bool, true, false, cond, _&&_, and-true, and-assoc}
+use mathlib.Core.Bool.{Bool, true, false, cond, _&&_, and-true, and-false}
 use Prim.Native.Nat.{ℕ, zero, suc, _+_, _-_, _*_, _≤_, _<_, min}
 use native.Mathlib.Omega.{arith}
 use native.Mathlib.Nat.{add-zero, zero-add, sub-zero, div-mul-le-self}
@@ -20,14 +20,16 @@ use Rattle.region_rows.specs.Rows.{width, top, mostRows, capacity, withSpan, la
 use Rattle.region_rows.proofs.Rows.{stored, stored-none, stored-more, stored-laid}
 use Rattle.region_try.specs.Stops.{stopBy, badTypeBy, Standing, standingTold, stopOf, badTypeOf}
 use Rattle.region_try.specs.Tries.{Try, none, hit, deepest, regionTries, allTries}
+use Rattle.region_try.specs.Whole.{keepsWhole, allKeepWhole}
 use Rattle.region_try.specs.Steps.{Walk, state, step, run}
 use Rattle.region_walk.specs.Steps.{endWhere, regionEnd}
 use Rattle.region_walk.specs.declared.Walked.{Walked}
-use Rattle.region.specs.Listing.{numberOf, answerOf, topStands, Shown, tried, triedRow, shown, noneShort, refusal, walked, listed}
+use Rattle.region.specs.Listing.{numberOf, answerOf, topStands, Shown, tried, triedRow, shown, refusal, walked, listed}
 use Rattle.region.specs.declared.Answer.the-variants.{TooLong, BadRules}
 use Rattle.region.specs.declared.Listing.{Listing}
 use Rattle.region_try.specs.declared.Cut.{Cut}
 use Rattle.region_try.specs.declared.Cut.the-variants.{Going, Full, Spent}
+use Rattle.region_try.specs.declared.stop.Stop.{Stop}
 use Rattle.region_try.specs.declared.Found.the-variants.{Nothing, NoRoom, Row}
 use Rattle.region_try.proofs.Heads.{stopped}
 use Rattle.region_try.proofs.Finds.{finds-nothing, finds-no-room, finds-row}
@@ -56,19 +58,50 @@ shown-hit : (limit room : ℕ) (r : Span) (vs : List Try) → shown (suc limit) 
 unfolding shown
 shown-hit limit room r vs = refl
 
-short-none : (whole : Bool) → (whole && noneShort []) ≡ whole
-unfolding noneShort
-short-none whole = and-true whole
+-- ---- `whole`
 
-short-more : (whole : Bool) (r : Span) (rs : List Span) → (whole && noneShort (r ∷ rs)) ≡ (whole && eqb (r .held) (r .declared) && noneShort rs)
-unfolding noneShort
-short-more whole r rs = sym (and-assoc whole (eqb (r .held) (r .declared)) (noneShort rs))
+-- is a walk not cut off?
+abbrev uncut : Cut → Bool
+uncut Going = true
+uncut Full = false
+uncut Spent = false
+
+-- `whole` at the end of some tries
+abbrev marked : Bool → Cut → List Try → Bool
+marked whole cut vs = whole && (uncut cut && allKeepWhole vs)
+
+marked-none : (whole : Bool) → marked whole Going [] ≡ whole
+unfolding allKeepWhole
+marked-none whole = and-true whole
+
+marked-full : (whole : Bool) (vs : List Try) → marked whole Full vs ≡ false
+marked-full whole vs = and-false whole
+
+marked-spent : (whole : Bool) (vs : List Try) → marked whole Spent vs ≡ false
+marked-spent whole vs = and-false whole
+
+marked-more : (whole : Bool) (cut : Cut) (v : Try) (vs : List Try) → marked (whole && keepsWhole v) cut vs ≡ marked whole cut (v ∷ vs)
+unfolding allKeepWhole
+marked-more whole cut v vs = by whole (keepsWhole v) (uncut cut)
+  where
+    by : (w k c : Bool) → (w && k && (c && allKeepWhole vs)) ≡ (w && (c && (k && allKeepWhole vs)))
+    by false k c = refl
+    by true true c = refl
+    by true false true = refl
+    by true false false = refl
+
+-- with answer 0 nothing is cut off
+marked-answer : (cut : Cut) (n : ℕ) (stop : Stop) (type : ℕ) (keeps : Bool)
+    → (eqb (numberOf (answerOf cut n stop type)) 0 && (uncut cut && keeps)) ≡ (eqb (numberOf (answerOf cut n stop type)) 0 && keeps)
+marked-answer Going n stop type keeps = refl
+marked-answer Full n stop type keeps = refl
+marked-answer Spent n stop type keeps = refl
 
 -- ---- a run
 
--- the run that ends as shown, from a table with q rows, n tries and a mark
-abbrev shows : List ℕ → ℕ → ℕ → Bool → Shown → Walk
-shows t q n whole s = (stored t q (s .rows), state (q + length (s .rows)) (n + s .tries) (whole && noneShort (s .rows)) (s .cut))
+-- the run of some tries that ends as shown, from a table with q rows, n tries and a mark
+abbrev shows : List Try → List ℕ → ℕ → ℕ → Bool → Shown → Walk
+shows vs t q n whole s = (stored t q (s .rows), state (q + length (s .rows)) (n + s .tries) (marked whole (s .cut) vs) (s .cut))
 
 module _ (limit room : ℕ) where
   -- a run that goes on after a try, and one that the try ends
@@ -79,24 +112,25 @@ module _ (limit room : ℕ) where
   run-ends v vs m m₁ e f = run-on v vs m m₁ e ∙ run-cut limit room vs m₁ f
 
   run-spent : (v : Try) (vs : List Try) (t : List ℕ) (q n : ℕ) (whole : Bool) → limit ≤ n
-      → run limit room (v ∷ vs) (t, state q n whole Going) ≡ shows t q n whole (shown (limit - n) (room - q) (v ∷ vs))
+      → run limit room (v ∷ vs) (t, state q n whole Going) ≡ shows (v ∷ vs) t q n whole (shown (limit - n) (room - q) (v ∷ vs))
   run-spent v vs t q n whole h =
       let z : limit - n ≡ 0 = omega arith in
-      run-ends v vs (t, state q n whole Going) (t, state q n whole Spent) (step-spent limit room v t q n whole h) spent-going
-      ∙ rw (z, shown-spent, stored-none, short-none, add-zero q, add-zero n)
+      run-ends v vs (t, state q n whole Going) (t, state q n false Spent) (step-spent limit room v t q n whole h) spent-going
+      ∙ rw (z, shown-spent, stored-none, marked-spent, add-zero q, add-zero n)
 
   run-shows : (vs : List Try) (t : List ℕ) (q n : ℕ) (whole : Bool)
-      → run limit room vs (t, state q n whole Going) ≡ shows t q n whole (shown (limit - n) (room - q) vs)
-  run-shows [] t q n whole = rw (run-none, shown-end, stored-none, short-none, add-zero q, add-zero n)
+      → run limit room vs (t, state q n whole Going) ≡ shows vs t q n whole (shown (limit - n) (room - q) vs)
+  run-shows [] t q n whole = rw (run-none, shown-end, stored-none, marked-none whole, add-zero q, add-zero n)
   run-shows (none l o head ∷ vs) t q n whole = ⊎-elim
       (λ h. run-spent (none l o head) vs t q n whole h)
       (λ h.
       let z : limit - n ≡ suc (limit - (n + 1)) = omega arith in
       let i : n + 1 + shown (limit - (n + 1)) (room - q) vs .tries ≡ n + suc (shown (limit - (n + 1)) (room - q) vs .tries) = omega arith in
-      run-on (none l o head) vs (t, state q n whole Going) (t, state q (n + 1) whole Going)
+      let whole₁ = whole && keepsWhole (none l o head) in
+      run-on (none l o head) vs (t, state q n whole Going) (t, state q (n + 1) whole₁ Going)
       (step-made limit room (none l o head) t t (Nothing (stopBy head) (badTypeBy head)) q n whole h (finds-nothing room q t (stopped l o head)))
-      ∙ run-shows vs t q (n + 1) whole
-      ∙ rw (z, shown-none, i))
+      ∙ run-shows vs t q (n + 1) whole₁
+      ∙ rw (z, shown-none, marked-more, i))
       (le-or-lt limit n)
   run-shows (hit r ∷ vs) t q n whole = ⊎-elim
       (λ h. run-spent (hit r) vs t q n whole h)
@@ -104,21 +138,21 @@ module _ (limit room : ℕ) where
       (λ g.
       let z : limit - n ≡ suc (limit - (n + 1)) = omega arith in
       let y : room - q ≡ 0 = omega arith in
-      run-ends (hit r) vs (t, state q n whole Going) (t, state q (n + 1) whole Full)
+      run-ends (hit r) vs (t, state q n whole Going) (t, state q (n + 1) false Full)
       (step-made limit room (hit r) t t NoRoom q n whole h (finds-no-room room q t refl g)) full-going
-      ∙ rw (z, y, shown-full, stored-none, short-none, add-zero q))
+      ∙ rw (z, y, shown-full, stored-none, marked-full, add-zero q))
       (λ g.
       let z : limit - n ≡ suc (limit - (n + 1)) = omega arith in
       let y : room - q ≡ suc (room - (q + 1)) = omega arith in
       let t₁ = withSpan t q r in
-      let whole₁ = whole && eqb (r .held) (r .declared) in
+      let whole₁ = whole && keepsWhole (hit r) in
       let s = shown (limit - (n + 1)) (room - (q + 1)) vs in
       let i : n + 1 + s .tries ≡ n + suc (s .tries) = omega arith in
       let j : q + 1 + length (s .rows) ≡ q + suc (length (s .rows)) = omega arith in
       run-on (hit r) vs (t, state q n whole Going) (t₁, state (q + 1) (n + 1) whole₁ Going)
       (step-made limit room (hit r) t t₁ (Row (r .held) (r .declared) (r .size) (isBox (r .word) (r .flags))) q n whole h (finds-row room q t refl g))
       ∙ run-shows vs t₁ (q + 1) (n + 1) whole₁
-      ∙ rw (z, y, shown-hit, stored-more, short-more, i, j))
+      ∙ rw (z, y, shown-hit, stored-more, marked-more, i, j))
       (le-or-lt room q))
       (le-or-lt limit n)
 
@@ -188,7 +222,7 @@ module _ (rules bytes : List ℕ) (limit : ℕ) (t : List ℕ) where
         stored-laid (all .rows) t (omega arith)
 
     runs : run limit (min (capacity t) mostRows) (regionTries rules deepest bytes 0 top 0) (t, state 0 0 true Going)
-        ≡ (laid (all .rows) t, state (length (all .rows)) (all .tries) (noneShort (all .rows)) (all .cut))
+        ≡ (laid (all .rows) t, state (length (all .rows)) (all .tries) (marked true (all .cut) (allTries rules bytes)) (all .cut))
     unfolding allTries
     runs =
         run-shows limit (min (capacity t) mostRows) (regionTries rules deepest bytes 0 top 0) t 0 0 true
@@ -200,9 +234,10 @@ module _ (rules bytes : List ℕ) (limit : ℕ) (t : List ℕ) where
         let answer = answerOf (m .1 .cut) (m .1 .rows) (m .1 .stop) (m .1 .«bad_type») in
         (m .0, record { answer = answer; rows = m .1 .rows; tries = m .1 .tries; whole = eqb (numberOf answer) 0 && m .1 .whole; stop = m .1 .stop })
 
-    walked-eq : made (endWhere (topStands rules bytes) (laid (all .rows) t, state (length (all .rows)) (all .tries) (noneShort (all .rows)) (all .cut))) ≡ walked rules bytes limit t
+    walked-eq : made (endWhere (topStands rules bytes) (laid (all .rows) t, state (length (all .rows)) (all .tries) (marked true (all .cut) (allTries rules bytes)) (all .cut)))
+        ≡ walked rules bytes limit t
     unfolding walked
-    walked-eq = rw (answer-told (all .cut) (length (all .rows)) (topStands rules bytes))
+    walked-eq = rw (answer-told (all .cut) (length (all .rows)) (topStands rules bytes), marked-answer)
 
     pub listed-run : validOf rules ≡ true → (m : List ℕ × Walked)
         → m ≡ regionEnd limit (min (capacity t) mostRows) deepest (regionTries rules deepest bytes 0 top 0) (t, state 0 0 true Going)

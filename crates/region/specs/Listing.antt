@@ -1,7 +1,7 @@
 -- The listing as a function of the bytes, the rules, the limit and the table (document 01, 'The nested listing').
 use Prim.Native.Nat.{ℕ, zero, suc}
 use mathlib.Core.List.{List, [], _∷_}
-use mathlib.Core.Bool.{Bool, true, false, cond, _&&_}
+use mathlib.Core.Bool.{Bool, false, cond, _&&_}
 use lib.Dec.{eqb, ltb}
 use lib.ListN.{length}
 use Rattle.answers.specs.Numbers as answer
@@ -11,6 +11,7 @@ use Rattle.region_rows.specs.declared.Span.{Span}
 use Rattle.region_rows.specs.Rows.{capacity, laid}
 use Rattle.region_try.specs.Stops.{Standing, standingTold, stopOf, badTypeOf}
 use Rattle.region_try.specs.Tries.{Try, none, hit, standsAt, allTries}
+use Rattle.region_try.specs.Whole.{allKeepWhole}
 use Rattle.region_try.specs.declared.Cut.{Cut}
 use Rattle.region_try.specs.declared.Cut.the-variants.{Going, Full, Spent}
 use Rattle.region_try.specs.declared.stop.Stop.{Stop}
@@ -83,16 +84,11 @@ shown (suc limit) room (none level offset head ∷ vs) = tried (shown limit room
 shown (suc limit) zero (hit r ∷ vs) = record { rows = []; tries = 1; cut = Full }
 shown (suc limit) (suc room) (hit r ∷ vs) = triedRow r (shown limit room vs)
 
--- does no row hold less than it declares?
-unfoldable pub noneShort : List Span → Bool
-noneShort [] = true
-noneShort (r ∷ rs) = eqb (r .held) (r .declared) && noneShort rs
-
 -- ---- the listing
 
--- yes exactly when the answer is 0 and no row holds less than it declares
-abbrev pub wholeOf : Answer → List Span → Bool
-wholeOf answer rows = eqb (numberOf answer) 0 && noneShort rows
+-- yes exactly when the answer is 0 and every try keeps it whole (document 02, C-14)
+abbrev pub wholeOf : Answer → List Try → Bool
+wholeOf answer tries = eqb (numberOf answer) 0 && allKeepWhole tries
 
 -- what stands where the top region stops
 abbrev pub topStands : List ℕ → List ℕ → Standing
@@ -102,14 +98,15 @@ topStands rules bytes = standsAt 0 (allTries rules bytes)
 abbrev pub answerShown : Standing → Shown → Answer
 answerShown standing s = answerOf (s .cut) (length (s .rows)) (stopOf standing) (badTypeOf standing)
 
-abbrev pub listingOf : Standing → Shown → Listing
-listingOf standing s =
+abbrev pub listingOf : List ℕ → List ℕ → Shown → Listing
+listingOf rules bytes s =
+    let answer = answerShown (topStands rules bytes) s in
     record {
-      answer = answerShown standing s;
+      answer = answer;
       rows = length (s .rows);
       tries = s .tries;
-      whole = wholeOf (answerShown standing s) (s .rows);
-      stop = stopOf (standingTold (s .cut) standing);
+      whole = wholeOf answer (allTries rules bytes);
+      stop = stopOf (standingTold (s .cut) (topStands rules bytes));
     }
 
 abbrev pub refusal : Answer → Listing
@@ -117,7 +114,7 @@ refusal answer = record { answer = answer; rows = 0; tries = 0; whole = false; s
 
 -- the table with the rows laid at its start, and the listing
 abbrev pub showing : List ℕ → List ℕ → List ℕ → Shown → List ℕ × Listing
-showing rules bytes t s = (laid (s .rows) t, listingOf (topStands rules bytes) s)
+showing rules bytes t s = (laid (s .rows) t, listingOf rules bytes s)
 
 -- the table and the listing at the end, where nothing is refused
 unfoldable pub walked : List ℕ → List ℕ → ℕ → List ℕ → List ℕ × Listing

@@ -128,10 +128,10 @@ pub fn list(region: &[u8], rules: &[u32], limit: u64, spans: &mut [u32]) -> List
         &bounds,
         0,
         DEEPEST,
-        TOP,
-        0,
         0,
         true,
+        TOP,
+        0,
         spans,
     );
     let cut = end.cut;

@@ -4,3 +4,4 @@ pub mod Bounds
 pub mod Limits
 pub mod Refusals
 pub mod Reach
+pub mod Clauses

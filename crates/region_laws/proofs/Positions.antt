@@ -27,16 +27,16 @@ length-offsets (v ∷ vs) = ap suc (length-offsets vs)
 module _ (rules : List ℕ) where
   -- the tries inside a Box are made at its positions
   abbrev Agree : Inside → InsideAt → Type 0
-  Agree box at = (held : List ℕ) (offset size row : ℕ) → offsets (box held offset size row) ≡ at held offset size
+  Agree box at = (held : List ℕ) (offset size row : ℕ) → offsets (box held offset size row) ≡ at offset held size
 
   module _ (box : Inside) (inside : InsideAt) (agree : Agree box inside) where
-    within-at : (boxed : Bool) (held : List ℕ) (offset size row : ℕ) → offsets (cond boxed (box held offset size row) []) ≡ cond boxed (inside held offset size) []
+    within-at : (boxed : Bool) (held : List ℕ) (offset size row : ℕ) → offsets (cond boxed (box held offset size row) []) ≡ cond boxed (inside offset held size) []
     within-at true held offset size row = agree held offset size row
     within-at false held offset size row = refl
 
     onward-at : (level parent offset : ℕ) (bs : List ℕ) (n : ℕ) (head : Head) (rest : ℕ → ℕ → List Try) (after : ℕ → List ℕ)
         → ((k m : ℕ) → offsets (rest k m) ≡ after k)
-        → offsets (onward box bs n (tryOf level parent offset (length bs) head) rest) ≡ offset ∷ following inside bs offset head after
+        → offsets (onward box bs n (tryOf level parent offset (length bs) head) rest) ≡ offset ∷ following (inside offset) bs head after
     unfolding onward tryOf byHead
     onward-at level parent offset bs n (Ended ending) rest after e = refl
     onward-at level parent offset bs n BadHeader rest after e = refl
@@ -51,7 +51,7 @@ module _ (rules : List ℕ) where
 
         by : (b : Bool)
             → offsets (onward box bs n (cond b (none level offset (Record word flags declared size)) (hit row)) rest)
-            ≡ offset ∷ cond b [] (cond (isBox word flags) (inside (take declared bs) offset size) [] ++ after (declared - 1))
+            ≡ offset ∷ cond b [] (cond (isBox word flags) (inside offset (take declared bs) size) [] ++ after (declared - 1))
         by true = refl
         by false =
             ap (λ (l : List ℕ). offset ∷ l)

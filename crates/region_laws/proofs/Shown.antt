@@ -9,6 +9,7 @@ use Rattle.region_rows.specs.declared.Span.{Span}
 use Rattle.region_try.specs.Tries.{Try, none, hit, rowsFound}
 use Rattle.region.specs.Listing.{Shown, tried, triedRow, shown}
 use Rattle.region_try.specs.declared.Cut.the-variants.{Going, Spent}
+use Rattle.region_try.proofs.Runs.{spent-going, full-going}
 
 pub tries-le : (limit room : ℕ) (vs : List Try) → shown limit room vs .tries ≤ length vs
 unfolding shown
@@ -48,6 +49,15 @@ all-shown zero room (v ∷ vs) h g = absurd (omega arith)
 all-shown (suc limit) room (none l o head ∷ vs) h g = ap (λ (s : Shown). tried s) (all-shown limit room vs (omega arith) g)
 all-shown (suc limit) zero (hit r ∷ vs) h g = absurd (omega arith)
 all-shown (suc limit) (suc room) (hit r ∷ vs) h g = ap (λ (s : Shown). triedRow r s) (all-shown limit room vs (omega arith) (omega arith))
+
+-- where nothing is cut off, every row is shown
+pub going-rows : (limit room : ℕ) (vs : List Try) → shown limit room vs .cut ≡ Going → shown limit room vs .rows ≡ rowsFound vs
+unfolding shown rowsFound
+going-rows limit room [] e = refl
+going-rows zero room (v ∷ vs) e = absurd (spent-going e)
+going-rows (suc limit) room (none l o head ∷ vs) e = going-rows limit room vs e
+going-rows (suc limit) zero (hit r ∷ vs) e = absurd (full-going e)
+going-rows (suc limit) (suc room) (hit r ∷ vs) e = ap (λ (rs : List Span). r ∷ rs) (going-rows limit room vs e)
 
 -- the limit cuts off
 pub cut-shown : (limit room : ℕ) (vs : List Try) → limit < length vs → length (rowsFound vs) ≤ room

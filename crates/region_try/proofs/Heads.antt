@@ -58,13 +58,14 @@ module _ (level parent offset : ℕ) (bs : List ℕ) (word flags : ℕ) where
   record-hit f h g = rw (head-record bs word flags f h, ne-eqb _ _ g)
 
 -- what the row of a record says of its header and its place
-pub record Whence (at left : ℕ) (head : Head) (r : Span) : Type 0 where
+pub record Whence (depth at left : ℕ) (head : Head) (r : Span) : Type 0 where
+  pub level : r .level ≡ depth
   pub is : head ≡ Record (r .word) (r .flags) (r .declared) (r .size)
   pub offset : r .offset ≡ at
   pub some : 0 < r .declared
   pub held : r .held ≡ min (r .declared) left
 
-pub hit-whence : (level parent offset left : ℕ) (head : Head) (r : Span) → tryOf level parent offset left head ≡ hit r → Whence offset left head r
+pub hit-whence : (level parent offset left : ℕ) (head : Head) (r : Span) → tryOf level parent offset left head ≡ hit r → Whence level offset left head r
 unfolding tryOf
 hit-whence level parent offset left (Ended ending) r e = absurd (let z : _≡_ {A = ℕ} 0 1 = cc in omega arith)
 hit-whence level parent offset left BadHeader r e = absurd (let z : _≡_ {A = ℕ} 0 1 = cc in omega arith)
@@ -73,12 +74,12 @@ hit-whence level parent offset left (Record word flags declared size) r e = by (
   where
     by : (b : Bool) → eqb declared 0 ≡ b
         → cond b (none level offset (Record word flags declared size)) (hit (spanOf level parent offset left word flags declared size)) ≡ hit r
-        → Whence offset left (Record word flags declared size) r
+        → Whence level offset left (Record word flags declared size) r
     by true k e = absurd (let z : _≡_ {A = ℕ} 0 1 = cc in omega arith)
     by false k e =
         let q : spanOf level parent offset left word flags declared size ≡ r = cc in
         let d : declared ≡ 0 → ⊥ = eqb-false declared 0 k in
-        rw (← q) (record { is = refl; offset = refl; some = omega arith; held = refl })
+        rw (← q) (record { level = refl; is = refl; offset = refl; some = omega arith; held = refl })
 
 -- a try without a record has the level of its region
 pub none-level : (level parent offset left : ℕ) (head : Head) {l o : ℕ} {h : Head} → tryOf level parent offset left head ≡ none l o h → l ≡ level

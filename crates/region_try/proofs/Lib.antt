@@ -4,3 +4,4 @@ pub mod Tries
 pub mod Runs
 pub mod Bound
 pub mod Stops
+pub mod Whole

@@ -2,7 +2,7 @@
 -- By induction over the tries. Assumes nothing.
 use mathlib.Core.Path.{_≡_, refl, sym, _∙_}
 use mathlib.Core.List.{List, [], _∷_, _++_}
-use mathlib.Core.Bool.{Bool, true, false, cond}
+use mathlib.Core.Bool.{Bool, true, false, cond, _&&_}
 use mathlib.Core.Logic.{_⊎_, inl, inr, ⊎-elim}
 use Prim.Native.Nat.{ℕ, _+_, _≤_, _<_}
 use native.Mathlib.Omega.{arith}
@@ -13,6 +13,7 @@ use Rattle.header_judge.specs.Head.{isBox}
 use Rattle.region_rows.specs.declared.Span.{Span}
 use Rattle.region_rows.specs.Rows.{withSpan}
 use Rattle.region_try.specs.Tries.{Try, none, hit, rowsFound}
+use Rattle.region_try.specs.Whole.{keepsWhole}
 use Rattle.region_try.specs.Steps.{Walk, state, found, counted, due, ifGoing, step, run}
 use Rattle.region_try.specs.declared.Cut.{Cut}
 use Rattle.region_try.specs.declared.Cut.the-variants.{Going, Full, Spent}
@@ -35,12 +36,12 @@ module _ (limit room : ℕ) where
   -- ---- one try
 
   pub step-spent : (v : Try) (t : List ℕ) (rows tries : ℕ) (whole : Bool) → limit ≤ tries
-      → step limit room v (t, state rows tries whole Going) ≡ (t, state rows tries whole Spent)
+      → step limit room v (t, state rows tries whole Going) ≡ (t, state rows tries false Spent)
   unfolding step
   step-spent v t rows tries whole h = rw (le-leb _ _ h)
 
   pub step-made : (v : Try) (t t₁ : List ℕ) (f : Found) (rows tries : ℕ) (whole : Bool) → tries < limit → _≡_ {A = List ℕ × Found} (t₁, f) (found room rows v t)
-      → step limit room v (t, state rows tries whole Going) ≡ (t₁, counted rows (tries + 1) whole f)
+      → step limit room v (t, state rows tries whole Going) ≡ (t₁, counted rows (tries + 1) (whole && keepsWhole v) f)
   unfolding step
   step-made v t t₁ f rows tries whole h e = rw (lt-leb _ _ h, ← e)
 
@@ -91,14 +92,14 @@ module _ (limit room : ℕ) where
   step-rows v m e = by (m .1 .cut) refl v e
     where
       room-left : (r : Span) (b : Bool)
-          → Adds (hit r) (m .1) (counted (m .1 .rows) (m .1 .tries + 1) (m .1 .whole) (cond {A = List ℕ × Found} b (m .0, NoRoom)
+          → Adds (hit r) (m .1) (counted (m .1 .rows) (m .1 .tries + 1) (m .1 .whole && keepsWhole (hit r)) (cond {A = List ℕ × Found} b (m .0, NoRoom)
           (withSpan (m .0) (m .1 .rows) r, Row (r .held) (r .declared) (r .size) (isBox (r .word) (r .flags))) .1))
       room-left r true e = absurd (full-going e)
       room-left r false e = refl
 
       made : (b : Bool) (v : Try)
-          → Adds v (m .1) (cond {A = Walk} b (m .0, state (m .1 .rows) (m .1 .tries) (m .1 .whole) Spent)
-          (found room (m .1 .rows) v (m .0) .0, counted (m .1 .rows) (m .1 .tries + 1) (m .1 .whole) (found room (m .1 .rows) v (m .0) .1)) .1)
+          → Adds v (m .1) (cond {A = Walk} b (m .0, state (m .1 .rows) (m .1 .tries) false Spent)
+          (found room (m .1 .rows) v (m .0) .0, counted (m .1 .rows) (m .1 .tries + 1) (m .1 .whole && keepsWhole v) (found room (m .1 .rows) v (m .0) .1)) .1)
       made true v e = absurd (spent-going e)
       made false (none l o head) e = omega arith
       made false (hit r) e = room-left r (leb room (m .1 .rows)) e

@@ -1,3 +1,4 @@
 pub mod Stops
 pub mod Tries
+pub mod Whole
 pub mod Steps

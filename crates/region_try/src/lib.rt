@@ -22,7 +22,7 @@ pub enum Cut {
     Spent,
 }
 
-// How far a walk has come: the rows written, the tries made, and whether no row holds less than it declares.
+// How far a walk has come: the rows written, the tries made, and whether all is whole so far; a walk that is cut off is not.
 pub struct State {
     pub rows: u32,
     pub tries: u64,

@@ -1,6 +1,7 @@
-// Why a region stops (document 02, C-12), and the number of each reason.
+// Why a region stops (document 02, C-12), the number of each reason, and which of them leave a listing whole (C-14).
 ghost use mathlib.Core.Path.{_≡_};
 ghost use Rattle.region_try.specs.Stops.{stopNumber, stopEnded};
+ghost use Rattle.region_try.specs.Whole.{cleanStop};
 use answers::stops;
 use header_judge::version::Ending;
 
@@ -40,5 +41,21 @@ pub fn stop_ended(ending: Ending) -> Stop
         Ending::ZeroWord => Stop::ZeroWord,
         Ending::DeadbeefWord => Stop::DeadbeefWord,
         Ending::FewBytes => Stop::FewBytes,
+    }
+}
+
+// Is all well where a region stops for a reason: at its input's end, or at a word that ends the records?
+pub fn clean_stop(stop: Stop) -> bool
+    ensures { λ r. ⌜ r ≡ cleanStop stop ⌝ }
+{
+    match stop {
+        Stop::Untold => false,
+        Stop::EndOfInput => true,
+        Stop::ZeroWord => true,
+        Stop::DeadbeefWord => true,
+        Stop::FewBytes => false,
+        Stop::BadHeader => false,
+        Stop::BadType => false,
+        Stop::SizeZero => false,
     }
 }

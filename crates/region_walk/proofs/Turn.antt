@@ -9,7 +9,7 @@ use native.Mathlib.Omega.{arith}
 use native.Mathlib.Nat.{add-zero}
 use types.Run.{OneOf, miss}
 use denote.Enum.Declared.{tagOf}
-use lib.Dec.{eqb, ltb}
+use lib.Dec.{leb, ltb}
 use lib.ListN.{length, take, drop, length-take, length-drop}
 use lib.Seq.{drop-drop, take-all, take-length}
 use borrow.Author.Tests.{ltb-true, ltb-false}
@@ -21,7 +21,8 @@ use Rattle.region_try.proofs.Cut.{the-type as cut-type}
 use Rattle.region_rows.specs.declared.Span.{Span}
 use Rattle.region_try.specs.Stops.{Standing, unknown, noByte, standingTold}
 use Rattle.region_try.specs.Tries.{Try, hit, tryOf, deepest, rowsFound, within, records, boxTries, regionTries}
-use Rattle.region_try.specs.Steps.{Walk, state, tryAt, found, counted, step, run, RowBounds}
+use Rattle.region_try.specs.Whole.{cleanStop, keepsWhole}
+use Rattle.region_try.specs.Steps.{Walk, state, tryAt, found, counted, step, run, boxWhole, RowBounds}
 use Rattle.region_try.specs.declared.Cut.{Cut}
 use Rattle.region_try.specs.declared.Cut.the-variants.{Going, Full, Spent}
 use Rattle.region_try.specs.declared.stop.Stop.{Stop}
@@ -34,6 +35,7 @@ use Rattle.region_try.proofs.Heads.{Whence, hit-whence}
 use Rattle.region_try.proofs.Finds.{Hit, found-nothing, found-row}
 use Rattle.region_try.proofs.Tries.{records-end, records-first, records-stop, records-hit, within-plain, within-box, box-open}
 use Rattle.region_try.proofs.Stops.{stands-none, stands-hit, stands-here, past-within, past-box}
+use Rattle.region_try.proofs.Whole.{keeps-stop, keeps-plain, keeps-box}
 use Rattle.region_try.proofs.Runs.{spent-going, full-going, step-spent, step-made, run-none, run-cons, run-append, run-cut, run-rows}
 use Rattle.region_walk.specs.Steps.{walkEnd, endTelling, endWhere, standsIn, regionEnd}
 use Rattle.region_walk.specs.declared.Walked.{Walked}
@@ -88,7 +90,7 @@ child-counts rules limit room levels held base size row m p h e =
 
 -- ---- the region from a position on
 
--- what does not change while a region is walkEnd
+-- what does not change while a region is walked
 pub record Place : Type 0 where
   pub rules : List ℕ
   pub bytes : List ℕ
@@ -168,8 +170,8 @@ module _ (p : Place) where
         ∙ run-cut (p .limit) (p .room) (a .0) m f)
         ∙ end-cut (stands (tryFrom at ∷ a .0)) m f
 
-    pub rest-spent : at < length (p .bytes) → p .limit ≤ tries → rest at t rows tries whole ≡ (t, walkEnd rows tries whole Spent Untold 0)
-    rest-spent h g = rest-cut h (t, state rows tries whole Spent) (step-spent (p .limit) (p .room) (tryFrom at) t rows tries whole g) spent-going
+    pub rest-spent : at < length (p .bytes) → p .limit ≤ tries → rest at t rows tries whole ≡ (t, walkEnd rows tries false Spent Untold 0)
+    rest-spent h g = rest-cut h (t, state rows tries false Spent) (step-spent (p .limit) (p .room) (tryFrom at) t rows tries whole g) spent-going
 
     -- a record: its try gives m₁, and what stands inside it m₂
     module _ (deep : p .levels ≤ deepest) (h : at < length (p .bytes)) (r : Span) (is : tryFrom at ≡ hit r) (some : 0 < r .declared) (m₁ m₂ : Walk)
@@ -225,18 +227,18 @@ module _ (p : Place) where
     pub bounded : RowBounds f
 
 module _ {p : Place} {at : ℕ} {t t₁ : List ℕ} {rows tries : ℕ} {f : Found} (y : Tried p at t t₁ rows tries f) (whole : Bool) where
-  made : step (p .limit) (p .room) (tryFrom p at) (t, state rows tries whole Going) ≡ (t₁, counted rows (tries + 1) whole f)
+  made : step (p .limit) (p .room) (tryFrom p at) (t, state rows tries whole Going) ≡ (t₁, counted rows (tries + 1) (whole && keepsWhole (tryFrom p at)) f)
   made = step-made (p .limit) (p .room) (tryFrom p at) t t₁ f rows tries whole (y .due) (y .gave)
 
-  pub full-turn : f ≡ NoRoom → rest p at t rows tries whole ≡ (t₁, walkEnd rows (tries + 1) whole Full Untold 0)
+  pub full-turn : f ≡ NoRoom → rest p at t rows tries whole ≡ (t₁, walkEnd rows (tries + 1) false Full Untold 0)
   full-turn e =
-      rest-cut p at t rows tries whole (y .within) (t₁, state rows (tries + 1) whole Full)
-      (made ∙ ap (λ (k : Found). (t₁, counted rows (tries + 1) whole k)) e) full-going
+      rest-cut p at t rows tries whole (y .within) (t₁, state rows (tries + 1) false Full)
+      (made ∙ ap (λ (k : Found). (t₁, counted rows (tries + 1) (whole && keepsWhole (tryFrom p at)) k)) e) full-going
 
   some-left : 0 < length (left p at)
   some-left = let h = y .within in simp length-drop (omega arith)
 
-  pub stop-turn : {stop : Stop} {type : ℕ} → f ≡ Nothing stop type → rest p at t rows tries whole ≡ (t₁, walkEnd rows (tries + 1) whole Going stop type)
+  pub stop-turn : {stop : Stop} {type : ℕ} → f ≡ Nothing stop type → rest p at t rows tries whole ≡ (t₁, walkEnd rows (tries + 1) (whole && cleanStop stop) Going stop type)
   stop-turn {stop} {type} e =
       let n = found-nothing (p .room) rows t t₁ stop type (tryFrom p at) (rw e at (y .gave)) in
       ap (λ (vs : List Try). ends p vs (t, state rows tries whole Going))
@@ -245,14 +247,14 @@ module _ {p : Place} {at : ℕ} {t t₁ : List ℕ} {rows tries : ℕ} {f : Foun
       (run-cons (p .limit) (p .room) (tryFrom p at) [] (t, state rows tries whole Going)
       ∙ run-none (p .limit) (p .room) (step (p .limit) (p .room) (tryFrom p at) (t, state rows tries whole Going))
       ∙ made
-      ∙ ap (λ (k : Found). (t₁, counted rows (tries + 1) whole k)) e)
-      ∙ ap₂ (λ (s : Stop) (k : ℕ). (t₁, walkEnd rows (tries + 1) whole Going s k)) (sym (n .why)) (sym (n .bad))
+      ∙ ap (λ (k : Found). (t₁, counted rows (tries + 1) (whole && keepsWhole (tryFrom p at)) k)) e)
+      ∙ rw (keeps-stop n, ← n .why, ← n .bad)
 
   module _ {h d z : ℕ} {b : Bool} (e : f ≡ Row h d z b) where
     seen : Hit (p .room) rows (tryFrom p at) h d z b
     seen = found-row (p .room) rows t t₁ h d z b (tryFrom p at) (rw e at (y .gave))
 
-    from : Whence (p .base + at) (length (left p at)) (headOf (p .rules) (left p at)) (seen .row)
+    from : Whence (deepest - p .levels) (p .base + at) (length (left p at)) (headOf (p .rules) (left p at)) (seen .row)
     from = hit-whence (deepest - p .levels) (p .parent) (p .base + at) (length (left p at)) (headOf (p .rules) (left p at)) (seen .row) (seen .is)
 
     pub row-free : rows < p .room
@@ -271,10 +273,10 @@ module _ {p : Place} {at : ℕ} {t t₁ : List ℕ} {rows tries : ℕ} {f : Foun
 
     -- the counts after the row
     abbrev more : State
-    more = state (rows + 1) (tries + 1) (whole && eqb h d) Going
+    more = state (rows + 1) (tries + 1) (whole && keepsWhole (tryFrom p at)) Going
 
     made-row : step (p .limit) (p .room) (tryFrom p at) (t, state rows tries whole Going) ≡ (t₁, more)
-    made-row = made ∙ ap (λ (k : Found). (t₁, counted rows (tries + 1) whole k)) e
+    made-row = made ∙ ap (λ (k : Found). (t₁, counted rows (tries + 1) (whole && keepsWhole (tryFrom p at)) k)) e
 
     turn : (m₂ : Walk) → m₂ ≡ runs p (inner p at (seen .row) rows) (t₁, more) → m₂ .1 .cut ≡ Going → rest p at t rows tries whole ≡ rest p (at + d) (m₂ .0) (m₂ .1 .rows) (m₂ .1 .tries) (m₂ .1 .whole)
     turn m₂ ins g =
@@ -282,23 +284,35 @@ module _ {p : Place} {at : ℕ} {t t₁ : List ℕ} {rows tries : ℕ} {f : Foun
         ∙ ap (λ (k : ℕ). rest p (at + k) (m₂ .0) (m₂ .1 .rows) (m₂ .1 .tries) (m₂ .1 .whole)) (sym (seen .declared))
 
     -- a record that is no Box
-    pub plain-turn : b ≡ false → rest p at t rows tries whole ≡ rest p (at + d) t₁ (rows + 1) (tries + 1) (whole && eqb h d)
+    pub plain-turn : b ≡ false → rest p at t rows tries whole ≡ rest p (at + d) t₁ (rows + 1) (tries + 1) (whole && leb d h)
     plain-turn k =
         turn (t₁, more)
         (sym (ap (λ (vs : List Try). runs p vs (t₁, more)) (within-plain (boxTries (p .rules) (p .levels)) (take (seen .row .declared) (left p at)) (seen .row) rows (sym (seen .boxed) ∙ k))
         ∙ run-none (p .limit) (p .room) (t₁, more)))
         refl
+        ∙ ap (λ (w : Bool). rest p (at + d) t₁ (rows + 1) (tries + 1) w) (keeps-plain seen whole k)
 
     -- a Box, from what the code's call says
     module _ (k : b ≡ true) {t₂ : List ℕ} {s₂ : State}
-        (ins : _≡_ {A = Walk} (t₂, s₂) (runs p (boxTries (p .rules) (p .levels) (take (at + h - at) (left p at)) (p .base + at) z rows) (t₁, more))) where
+        (ins : _≡_ {A = Walk} (t₂, s₂) (runs p (boxTries (p .rules) (p .levels) (take (at + h - at) (left p at)) (p .base + at) z rows)
+        (t₁, state (rows + 1) (tries + 1) (boxWhole (p .levels) z (length (take (at + h - at) (left p at))) (whole && leb d h)) Going))) where
+      -- the Box's own share in `whole`
+      counts-box : boxWhole (p .levels) z (length (take (at + h - at) (left p at))) (whole && leb d h) ≡ (whole && keepsWhole (tryFrom p at))
+      counts-box =
+          let n : length (take (at + h - at) (left p at)) ≡ h =
+          let i : at + h ≤ length (p .bytes) = row-held in
+          let l : length (left p at) ≡ length (p .bytes) - at = length-drop at (p .bytes) in
+          let m : length (take (at + h - at) (left p at)) ≡ min (at + h - at) (length (left p at)) = length-take (at + h - at) (left p at) in
+          omega arith in
+          rw n (keeps-box seen whole (deepest - p .levels) k (from .level))
+
       inside : _≡_ {A = Walk} (t₂, s₂) (runs p (inner p at (seen .row) rows) (t₁, more))
       inside =
           let i : at + h - at ≡ min (seen .row .declared) (length (left p at)) =
           let j : h ≡ seen .row .held = seen .held in
           let l : seen .row .held ≡ min (seen .row .declared) (length (left p at)) = from .held in
           omega arith in
-          rw (within-box (boxTries (p .rules) (p .levels)) (take (seen .row .declared) (left p at)) (seen .row) rows (sym (seen .boxed) ∙ k), from .offset, ← seen .size, ← held-part (left p at) (seen .row .declared) (at + h - at) i) ins
+          rw (within-box (boxTries (p .rules) (p .levels)) (take (seen .row .declared) (left p at)) (seen .row) rows (sym (seen .boxed) ∙ k), from .offset, ← seen .size, ← held-part (left p at) (seen .row .declared) (at + h - at) i, ← counts-box) ins
 
       pub box-turn : s₂ .cut ≡ Going → rest p at t rows tries whole ≡ rest p (at + d) t₂ (s₂ .rows) (s₂ .tries) (s₂ .whole)
       box-turn g = turn (t₂, s₂) inside g

@@ -3,11 +3,11 @@ use Prim.Native.Nat.{ℕ, _+_, _-_, _*_, _≤_, _<_, _^_}
 use mathlib.Core.List.{List, [], _∷_}
 use mathlib.Core.Bool.{Bool}
 use lib.ListN.{length, getD}
-use Rattle.rules.specs.Columns.{rulesIn}
+use Rattle.rules.specs.Columns.{rulesIn, Blank}
 use Rattle.region_rows.specs.Rows.{width}
 use Rattle.region_try.specs.Stops.{Standing, standingTold, stopOf, badTypeOf}
 use Rattle.region_try.specs.Tries.{Try, deepest, standsAt, boxTries, regionTries}
-use Rattle.region_try.specs.Steps.{Walk, state, run}
+use Rattle.region_try.specs.Steps.{Walk, state, run, boxWhole}
 use Rattle.region_try.specs.declared.Cut.{Cut}
 use Rattle.region_try.specs.declared.Cut.the-variants.{Going}
 use Rattle.region_try.specs.declared.stop.Stop.{Stop}
@@ -32,18 +32,19 @@ ruleRowsIn bs = getD bs 2 0
 abbrev pub tableIn : List ℕ → List ℕ → List ℕ
 tableIn rules bs = rulesIn rules (ruleRowsIn bs)
 
--- each fits its type, the rows fit in the lent table, and the rule table in its columns
-pub record Sound (bs spans : List ℕ) : Type 0 where
+-- each fits its type, the rows fit in the lent table, and the rule table in its columns, where no flag stands past it
+pub record Sound (rules bs spans : List ℕ) : Type 0 where
   pub limit : limitIn bs < 2 ^ 64
   pub room : roomIn bs < 2 ^ 32
   pub rows : roomIn bs * width ≤ length spans
-  pub rules : ruleRowsIn bs ≤ 64
+  pub columns : ruleRowsIn bs ≤ 64
+  pub blank : Blank rules (ruleRowsIn bs)
 
 -- what a walk asks: offsets fit their type, the levels are those that there are, and the bounds are sound
-pub record Walkable (bytes : List ℕ) (base levels : ℕ) (bs spans : List ℕ) : Type 0 where
+pub record Walkable (rules bytes : List ℕ) (base levels : ℕ) (bs spans : List ℕ) : Type 0 where
   pub offsets : base + length bytes < 2 ^ 32
   pub deep : levels ≤ deepest
-  pub sound : Sound bs spans
+  pub sound : Sound rules bs spans
 
 -- ---- the walks
 
@@ -77,6 +78,7 @@ abbrev pub regionRun : List ℕ → List ℕ → ℕ → List ℕ → ℕ → �
 regionRun rules bs levels bytes base parent m =
     regionEnd (limitIn bs) (roomIn bs) levels (regionTries (tableIn rules bs) levels bytes base parent (m .1 .rows)) m
 
--- the tries inside a Box whose row is the last
-abbrev pub boxRun : List ℕ → List ℕ → ℕ → List ℕ → ℕ → ℕ → ℕ → Walk → Walk
-boxRun rules bs levels held base size row m = run (limitIn bs) (roomIn bs) (boxTries (tableIn rules bs) levels held base size row) m
+-- the tries inside a Box whose row is the last, from the table, the tries and `whole` before it is opened
+abbrev pub boxRun : List ℕ → List ℕ → ℕ → List ℕ → ℕ → ℕ → ℕ → List ℕ → ℕ → Bool → Walk
+boxRun rules bs levels held base size row t tries whole =
+    run (limitIn bs) (roomIn bs) (boxTries (tableIn rules bs) levels held base size row) (going t (row + 1) tries (boxWhole levels size (length held) whole))

@@ -1,7 +1,7 @@
 // The walk: the records of a region, and those inside its Boxes, as rows of a lent table.
 // The region walk and the Box walk call each other, one level deeper each time; a region's records are a loop.
 ghost use mathlib.Core.Path.{_≡_};
-ghost use Prim.Native.Nat.{_+_, _<_};
+ghost use Prim.Native.Nat.{_<_};
 ghost use Rattle.region_try.specs.Steps.{state};
 ghost use Rattle.region_walk.specs.Steps.{boundsOf, roomIn, Walkable, walkEnd, going, regionRun, boxRun};
 use header_judge::version::NO_WORD;
@@ -10,6 +10,7 @@ use region_try::Cut;
 use region_try::Found;
 use region_try::State;
 use region_try::stop::Stop;
+use region_try::stop::clean_stop;
 use rules::columns::NUMBERS;
 
 // How deep Boxes are opened.
@@ -65,20 +66,20 @@ fn counts(rows: u32, tries: u64, whole: bool, cut: Cut) -> State
     }
 }
 
-// The records of a region, one after the other, each with what stands inside it.
+// The records of a region, one after the other, each with what stands inside it. Which arguments go in registers is by their order.
 pub fn region_walk(
     bytes: &[u8],
     rules: &[u32; NUMBERS],
     bounds: &[u64; BOUNDS],
     base: usize,
     levels: u32,
-    parent: u32,
     mut rows: u32,
-    mut tries: u64,
     mut whole: bool,
+    parent: u32,
+    mut tries: u64,
     spans: &mut [u32],
 ) -> Walked
-    requires { ⌜ Walkable (now bytes) base levels (now bounds) (now spans) ⌝ }
+    requires { ⌜ Walkable (now rules) (now bytes) base levels (now bounds) (now spans) ⌝ }
     ensures { λ r. ⌜ (now (spans .exit), r) ≡ regionRun (now (rules .entry)) (now (bounds .entry)) levels (now (bytes .entry)) base parent (going (now (spans .entry)) rows tries whole) ⌝ }
 {
     let mut last = NO_WORD;
@@ -86,7 +87,7 @@ pub fn region_walk(
     let mut at: usize = 0;
     while at < bytes.len() {
         if bounds[LIMIT] <= tries {
-            return walk_end(rows, tries, whole, Cut::Spent, Stop::Untold, 0);
+            return walk_end(rows, tries, false, Cut::Spent, Stop::Untold, 0);
         }
         let word = word_of(&bytes[at..]);
         if word != last {
@@ -107,10 +108,11 @@ pub fn region_walk(
         );
         match tried {
             Found::Nothing { stop, bad_type } => {
-                return walk_end(rows, tries, whole, Cut::Going, stop, bad_type);
+                let clean = clean_stop(stop);
+                return walk_end(rows, tries, whole & clean, Cut::Going, stop, bad_type);
             }
             Found::NoRoom => {
-                return walk_end(rows, tries, whole, Cut::Full, Stop::Untold, 0);
+                return walk_end(rows, tries, false, Cut::Full, Stop::Untold, 0);
             }
             Found::Row {
                 held,
@@ -120,7 +122,7 @@ pub fn region_walk(
             } => {
                 let row = rows;
                 rows = rows + 1;
-                whole = whole & (held == declared);
+                whole = whole & (declared <= held);
                 if boxed {
                     let end = at + held;
                     let inner = box_walk(
@@ -160,7 +162,8 @@ pub fn region_walk(
     walk_end(rows, tries, whole, Cut::Going, Stop::EndOfInput, 0)
 }
 
-// What stands inside a Box whose row is `row`. It is opened where a level is left and its header is held.
+// What stands inside a Box whose row is `row`. It is opened where a level is left and its header is held; a header that exceeds the
+// held bytes leaves nothing whole.
 fn box_walk(
     held: &[u8],
     rules: &[u32; NUMBERS],
@@ -173,15 +176,15 @@ fn box_walk(
     whole: bool,
     spans: &mut [u32],
 ) -> State
-    requires { ⌜ Walkable (now held) base levels (now bounds) (now spans) × (row < roomIn (now bounds)) ⌝ }
-    ensures { λ r. ⌜ (now (spans .exit), r) ≡ boxRun (now (rules .entry)) (now (bounds .entry)) levels (now (held .entry)) base size row (going (now (spans .entry)) (row + 1) tries whole) ⌝ }
+    requires { ⌜ Walkable (now rules) (now held) base levels (now bounds) (now spans) × (row < roomIn (now bounds)) ⌝ }
+    ensures { λ r. ⌜ (now (spans .exit), r) ≡ boxRun (now (rules .entry)) (now (bounds .entry)) levels (now (held .entry)) base size row (now (spans .entry)) tries whole ⌝ }
 {
     let rows = row + 1;
     if levels == 0 {
         return counts(rows, tries, whole, Cut::Going);
     }
     if held.len() <= size {
-        return counts(rows, tries, whole, Cut::Going);
+        return counts(rows, tries, whole & (size <= held.len()), Cut::Going);
     }
     let child = region_walk(
         &held[size..],
@@ -189,10 +192,10 @@ fn box_walk(
         bounds,
         base + size,
         levels - 1,
-        row,
         rows,
-        tries,
         whole,
+        row,
+        tries,
         spans,
     );
     let cut = child.cut;

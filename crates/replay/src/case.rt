@@ -1,7 +1,7 @@
 // A case, as bytes. All its numbers are little-endian. In the file the case's size stands before it, in 4 bytes.
 //
 //     0   source: 1 the Rust; 2 cut from the Rust's whole listing; 3 inverse of what the Rust decoded; 4 a sentence of document 01.
-//         Why a region stops and how records end comes from document 02 in each of them
+//         Why a region stops, how records end and `whole` come from document 02 in each of them
 //     4   how many numbers of rule table
 //     8   the limit of a listing, the row of a section, the record type of a name; else 0. 8 bytes
 //     16  the room: how many elements of the lent buffer the call gets

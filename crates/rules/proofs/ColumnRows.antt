@@ -1,4 +1,4 @@
--- The rows of columns, as the code meets them: the first row and those after it, or none; a row stored after some others.
+-- The rows of columns, as the code meets them: the first row and those after it, or none; rows without flags; a row stored after some others.
 -- By induction over the rows; a store in one column touches no other. Assumes nothing.
 use mathlib.Core.Path.{_≡_, refl, sym, ap, _∙_}
 use mathlib.Core.Logic.{_≢_}
@@ -6,10 +6,11 @@ use mathlib.Core.List.{List, [], _∷_, _++_}
 use Prim.Native.Nat.{ℕ, zero, suc, _+_, _-_, _≤_, _<_}
 use native.Mathlib.Nat.{zero-add, add-zero}
 use native.Mathlib.Omega.{arith}
-use lib.ListN.{length, getD, set, length-set}
+use lib.ListN.{length, getD, set, replicate, length-set}
 use lib.Seq.{getD-set-same, getD-set-other}
-use Rattle.rules.specs.Rules.{rule, rulesOf}
-use Rattle.rules.specs.Columns.{rulesFrom}
+use Rattle.rules.specs.Rules.{rule, applies, withRule, rulesOf, withRules, flagsOf}
+use Rattle.rules.specs.Columns.{rulesFrom, rulesIn, Blank}
+use Rattle.rules.proofs.Laws.{row-adds-none}
 
 -- ---- rows that are read
 
@@ -23,6 +24,37 @@ pub columns-step : (t : List ℕ) (at n : ℕ) → at < n
     → rulesOf (rulesFrom t at (n - at)) ≡ rule (getD t at 0) (getD t (at + 64) 0) (getD t (at + 128) 0) ∷ rulesOf (rulesFrom t (at + 1) (n - (at + 1)))
 unfolding rulesOf rulesFrom
 columns-step t at n h = let more : n - at ≡ suc (n - (at + 1)) = omega arith in rw more
+
+-- ---- rows without flags
+
+-- columns of zeros have none
+pub zero-at : (n i : ℕ) → _≡_ {A = ℕ} (getD (replicate n 0) i 0) 0
+zero-at zero i = refl
+zero-at (suc n) zero = refl
+zero-at (suc n) (suc i) = zero-at n i
+
+-- they add none
+blank-none : (t : List ℕ) (word all at m : ℕ) → Blank t at → withRules word all (rulesOf (rulesFrom t at m)) ≡ all
+unfolding withRules rulesOf rulesFrom
+blank-none t word all at zero blank = refl
+blank-none t word all at (suc m) blank =
+    let same : withRule word all (rule (getD t at 0) (getD t (at + 64) 0) (getD t (at + 128) 0)) ≡ all =
+    rw (blank at (omega arith)) (row-adds-none (applies word (rule (getD t at 0) (getD t (at + 64) 0) 0)) all) in
+    rw same (blank-none t word all (at + 1) m (λ row h. blank row (omega arith)))
+
+-- with so many rows after some others, the flags are those of the others
+blank-after : (t : List ℕ) (word all at k m : ℕ) → Blank t (at + k) → withRules word all (rulesOf (rulesFrom t at (k + m))) ≡ withRules word all (rulesOf (rulesFrom t at k))
+unfolding withRules rulesOf rulesFrom
+blank-after t word all at zero m blank = let e : zero + m ≡ m = omega arith in rw e (blank-none t word all at m (λ row h. blank row (omega arith)))
+blank-after t word all at (suc k) m blank =
+    let e : suc k + m ≡ suc (k + m) = omega arith in
+    rw e (blank-after t word (withRule word all (rule (getD t at 0) (getD t (at + 64) 0) (getD t (at + 128) 0))) (at + 1) k m (λ row h. blank row (omega arith)))
+
+pub blank-flags : (t : List ℕ) (word rows end : ℕ) → rows ≤ end → Blank t rows → flagsOf (rulesIn t end) word ≡ flagsOf (rulesIn t rows) word
+unfolding flagsOf
+blank-flags t word rows end h blank =
+    let e : end ≡ rows + (end - rows) = omega arith in
+    rw e (blank-after t word 0 0 rows (end - rows) (λ row g. blank row (omega arith)))
 
 -- ---- a row that is stored
 
@@ -84,6 +116,10 @@ module _ (t : List ℕ) (at a b c : ℕ) where
         ∙ getD-set-same one (at + 64) b 0 (simp length-set (omega arith)) in
         let flags : getD stored (at + 128) 0 ≡ c = getD-set-same two (at + 128) c 0 (simp length-set (omega arith)) in
         rw (mask, wanted, flags)
+
+    -- the flags past it
+    pub past-blank : Blank t at → Blank stored (at + 1)
+    past-blank blank row g = elsewhere (row + 128) (λ e. omega arith) (λ e. omega arith) (λ e. omega arith) ∙ blank row (omega arith)
 
     pub one-more : length t ≡ 192 → rulesFrom stored 0 (at + 1) ≡ rulesFrom t 0 at ++ (a ∷ b ∷ c ∷ [])
     one-more l =

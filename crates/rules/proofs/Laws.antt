@@ -90,6 +90,11 @@ united : (t : Bool) (all flags : ℕ) → bitOr all (cond t flags 0) ≡ cond t 
 united true all flags = refl
 united false all flags = or-zero-r all
 
+-- a row without flags adds none
+pub row-adds-none : (t : Bool) (all : ℕ) → cond t (bitOr all 0) all ≡ all
+row-adds-none true all = or-zero-r all
+row-adds-none false all = refl
+
 -- the first of the rules that are left, and those after it
 pub looked : (word all given : ℕ) {r : Rule} {left after : List Rule} → left ≡ r ∷ after → given ≡ cond (applies word r) (r .flags) 0
     → withRules word (bitOr all given) after ≡ withRules word all left

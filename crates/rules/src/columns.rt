@@ -3,7 +3,7 @@ ghost use mathlib.Core.Path.{_≡_};
 ghost use Prim.Native.Nat.{_/_, _%_, _≤_};
 ghost use lib.ListN.{length};
 ghost use Rattle.rules.specs.Rules.{flagsOf};
-ghost use Rattle.rules.specs.Columns.{rulesIn};
+ghost use Rattle.rules.specs.Columns.{rulesIn, Blank};
 use crate::NUMBERS_IN_RULE;
 
 // The rows that a column has room for.
@@ -12,10 +12,14 @@ const COLUMN: usize = 64;
 // The numbers of the three columns.
 pub const NUMBERS: usize = 192;
 
-// The columns of a table.
+// Rows are looked at in whole blocks, so that no row is left over for a loop of its own.
+const BLOCK: usize = 8;
+
+// The columns of a table; no flag stands past its rows.
 pub fn columns_of(rules: &[u32]) -> [u32; NUMBERS]
     requires { ⌜ (length (now rules) % 3 ≡ 0) × (length (now rules) ≤ 192) ⌝ }
     ensures { λ r. ⌜ rulesIn r (length (now (rules .entry)) / 3) ≡ now (rules .entry) ⌝ }
+    ensures { λ r. ⌜ Blank r (length (now (rules .entry)) / 3) ⌝ }
 {
     let mut columns = [0u32; NUMBERS];
     let mut row: usize = 0;
@@ -30,14 +34,15 @@ pub fn columns_of(rules: &[u32]) -> [u32; NUMBERS]
     columns
 }
 
-// The flags of a version word under the first rows, without a branch on them.
+// The flags of a version word under the first rows, without a branch on them. The rows past them, up to the end of a block, add none.
 pub fn flags(columns: &[u32; NUMBERS], rows: usize, word: u32) -> u32
-    requires { ⌜ rows ≤ 64 ⌝ }
+    requires { ⌜ (rows ≤ 64) × Blank (now columns) rows ⌝ }
     ensures { λ r. ⌜ r ≡ flagsOf (rulesIn (now (columns .entry)) rows) word ⌝ }
 {
+    let end = (rows + BLOCK - 1) / BLOCK * BLOCK;
     let mut all: u32 = 0;
     let mut row: usize = 0;
-    while row < rows {
+    while row < end {
         all = all
             | crate::flags_given(
                 word,

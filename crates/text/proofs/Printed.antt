@@ -12,7 +12,7 @@ use Rattle.region_rows.specs.declared.Span.{Span}
 use Rattle.region_rows.specs.Rows.{capacity}
 use Rattle.region_rows.proofs.Rows.{spans-laid}
 use Rattle.region_try.specs.Tries.{allTries}
-use Rattle.region.specs.Listing.{topStands, shown, listingOf, walked}
+use Rattle.region.specs.Listing.{shown, listingOf, walked}
 use Rattle.region.proofs.Shows.{listed-walked}
 use Rattle.text.specs.Dump.{heading, lines, lastLine, mostInput, mostTries, mostRows, listing, textOfListing, table, dumpText, shownText}
 
@@ -24,7 +24,7 @@ walked-text : (region t : List ℕ) → textOfListing (walked [] region mostTrie
 unfolding textOfListing walked
 walked-text region t =
     let s = shown mostTries (capacity t) (allTries [] region) in
-    ap (λ (rs : List Span). heading ++ lines rs ++ lastLine (listingOf (topStands [] region) s)) (spans-laid (s .rows) t)
+    ap (λ (rs : List Span). heading ++ lines rs ++ lastLine (listingOf [] region s)) (spans-laid (s .rows) t)
 
 listing-walked : (region t : List ℕ) → length region ≤ mostInput → listing region t ≡ walked [] region mostTries t
 unfolding listing

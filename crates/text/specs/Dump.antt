@@ -10,7 +10,7 @@ use Rattle.region_rows.specs.declared.Span.{Span}
 use Rattle.region_rows.specs.Rows.{width, spansIn}
 use Rattle.region.specs.declared.Answer.the-variants.{TooLong}
 use Rattle.region.specs.declared.Listing.{Listing}
-use Rattle.region.specs.Listing.{Shown, numberOf, refusal, topStands, listingOf, listed}
+use Rattle.region.specs.Listing.{Shown, numberOf, refusal, listingOf, listed}
 use Rattle.names.specs.Ascii.{ascii}
 use Rattle.names.specs.Names.{textOf}
 use Rattle.text.specs.Number.{decimal, hex}
@@ -86,4 +86,4 @@ dumpText region = textOfListing (listing region table)
 
 -- the text of what a listing with no rules shows
 abbrev pub shownText : List ℕ → Shown → List ℕ
-shownText region s = heading ++ lines (s .rows) ++ lastLine (listingOf (topStands [] region) s)
+shownText region s = heading ++ lines (s .rows) ++ lastLine (listingOf [] region s)

@@ -1,8 +1,9 @@
--- The worked examples P1 to P12 of document 01, 'Checked examples', and each ending and each reason of document 02, C-12, as one table of rows.
-use Prim.Native.Nat.{ℕ, _*_, _/_, _%_}
+-- The worked examples P1 to P12 of document 01, 'Checked examples', with each ending and each reason of document 02's C-12 and each clause of its C-14,
+-- as one table of rows.
+use Prim.Native.Nat.{ℕ, zero, suc, _+_, _*_, _/_, _%_}
 use mathlib.Core.Bool.{Bool, true, false}
 use mathlib.Core.List.{List, [], _∷_, _++_}
-use lib.ListN.{take, replicate}
+use lib.ListN.{length, take, replicate}
 use Rattle.answers.specs.Numbers.{ended}
 use Rattle.header.specs.Access.{dieOf}
 use Rattle.header.specs.Header.{numberOf, endingTold, decodedOf}
@@ -19,6 +20,8 @@ use Rattle.region.specs.Listing.{listed, typeOf, numberOf as listingNumber}
 pub data Example : Type 0 where
   -- a region listed with no rules under a limit, into so many rows: answer, type, rows, tries, `whole`, why the top region stopped, and the rows
   lists : (bytes : List ℕ) (limit room answer type rows tries : ℕ) (whole : Bool) (stop : ℕ) (spans : List Span) → Example
+  -- a region listed with sizes in bytes: answer and `whole`
+  marks : (bytes : List ℕ) (answer : ℕ) (whole : Bool) → Example
   -- bytes that decode to no header, since the records have ended
   ends : (bytes : List ℕ) (ending : ℕ) → Example
   -- the die of a legacy server header of a revision, decoded under a rule that makes it one
@@ -78,6 +81,22 @@ rowMca = row 0 top 20 8 16 0x3e123101
 abbrev rowOfBox : ℕ → ℕ → ℕ → ℕ → Span
 rowOfBox level parent offset size = row level parent offset size size 0x3d123101
 
+-- C-14: a record of 8 bytes, and bytes inside so many Boxes, one in the other; sizes are in bytes
+abbrev small : List ℕ
+small = punit 0x31 8
+
+abbrev nest : ℕ → List ℕ → List ℕ
+nest zero payload = payload
+nest (suc n) payload = let inner = nest n payload in box (8 + length inner) ++ inner
+
+-- a region that stops at these bytes after a record: the top one, one in a Box, and one in the last of four Boxes
+abbrev stopping : List ℕ → Bool → List Example
+stopping tail whole = marks (small ++ tail) 0 whole ∷ marks (nest 1 (small ++ tail)) 0 whole ∷ marks (nest 4 (small ++ tail)) 0 whole ∷ []
+
+-- a Box that declares 7 of its header's 8 bytes, before a zero word
+abbrev thin : List ℕ
+thin = box 7 ++ zeros
+
 -- ---- the table
 
 abbrev pub examples : List Example
@@ -91,7 +110,7 @@ examples =
     ∷ lists (punit 0x37 2) 9 9 4 7 0 1 false 5 []
     ∷ lists (punit 0x31 0) 9 9 5 0 0 1 false 6 []
     -- P7
-    ∷ lists (punit 0x31 2 ++ punit 0x37 2) 9 9 0 0 1 2 true 5 (rowFirst ∷ [])
+    ∷ lists (punit 0x31 2 ++ punit 0x37 2) 9 9 0 0 1 2 false 5 (rowFirst ∷ [])
     -- P8
     ∷ die 0x83 12
     ∷ die 0x03 12
@@ -112,15 +131,33 @@ examples =
     ∷ lists (punit 0x31 2) 9 9 0 0 1 1 true 1 (rowFirst ∷ [])
     ∷ lists (punit 0x31 2 ++ zeros) 9 9 0 0 1 2 true 2 (rowFirst ∷ [])
     ∷ lists (punit 0x31 2 ++ deadbeef) 9 9 0 0 1 2 true 3 (rowFirst ∷ [])
-    ∷ lists (punit 0x31 2 ++ (1 ∷ 2 ∷ 3 ∷ [])) 9 9 0 0 1 2 true 4 (rowFirst ∷ [])
-    ∷ lists (punit 0x31 2 ++ punit 0x31 0) 9 9 0 0 1 2 true 6 (rowFirst ∷ [])
+    ∷ lists (punit 0x31 2 ++ (1 ∷ 2 ∷ 3 ∷ [])) 9 9 0 0 1 2 false 4 (rowFirst ∷ [])
+    ∷ lists (punit 0x31 2 ++ punit 0x31 0) 9 9 0 0 1 2 false 6 (rowFirst ∷ [])
     ∷ lists (box 3 ++ zeros) 9 9 0 0 1 2 true 1 (rowOfBox 0 top 0 12 ∷ [])
     -- C-12: a decode at each ending
     ∷ ends zeros 2
     ∷ ends deadbeef 3
     ∷ ends (1 ∷ 2 ∷ 3 ∷ []) 4
     ∷ ends [] 4
-    ∷ []
+    -- C-14: a clean stop without a record; a row that holds less than it declares, at the top and in a Box
+    ∷ marks zeros 5 false
+    ∷ marks (punit 0x31 9) 0 false
+    ∷ marks (nest 1 (punit 0x31 9)) 0 false
+    -- C-14: a Box that holds no more than its header is opened; one that holds less is not, which on level 4 is no matter; nor is what stands inside it
+    ∷ marks (box 8) 0 true
+    ∷ marks thin 0 false
+    ∷ marks (nest 1 thin) 0 false
+    ∷ marks (nest 3 thin) 0 false
+    ∷ marks (nest 4 thin) 0 true
+    ∷ marks (nest 5 (punit 0x37 8)) 0 true
+    -- C-14: where regions stop
+    ∷ (stopping [] true
+    ++ (stopping zeros true
+    ++ (stopping deadbeef true
+    ++ (stopping (1 ∷ 2 ∷ 3 ∷ []) false
+    ++ (stopping (take 5 small) false
+    ++ (stopping (punit 0x37 8) false
+    ++ stopping (punit 0x31 0) false))))))
 
 -- ---- what the definitions say of an example
 
@@ -144,6 +181,10 @@ halfIn (Type5 stamp status e) = []
 halfIn (Type0LegacyServer stamp d k status) = []
 halfIn (Type0LegacyGpu stamp status) = []
 
+-- a rule by which every size counts bytes
+abbrev allInBytes : List ℕ
+allInBytes = 0 ∷ 0 ∷ 8 ∷ []
+
 -- a rule that makes every header a legacy server's
 abbrev allServers : List ℕ
 allServers = 0 ∷ 0 ∷ 1 ∷ []
@@ -160,6 +201,9 @@ computed (lists bytes limit room answer type rows tries whole stop spans) =
     let end = listed [] bytes limit (replicate (room * width) 0) in
     listingNumber (end .1 .answer) ∷ typeOf (end .1 .answer) ∷ end .1 .rows ∷ end .1 .tries ∷ bit (end .1 .whole) ∷ stopNumber (end .1 .stop)
     ∷ take (end .1 .rows * width) (end .0)
+computed (marks bytes answer whole) =
+    let end = listed allInBytes bytes 9 (replicate (9 * width) 0) in
+    listingNumber (end .1 .answer) ∷ bit (end .1 .whole) ∷ []
 computed (ends bytes ending) =
     let end = decodedOf [] bytes in
     numberOf (end .answer) ∷ endingTold (end .answer) ∷ []
@@ -173,6 +217,7 @@ computed (half word count complete size) =
 -- what the documents say of it
 abbrev pub stated : Example → List ℕ
 stated (lists bytes limit room answer type rows tries whole stop spans) = answer ∷ type ∷ rows ∷ tries ∷ bit whole ∷ stop ∷ flat spans
+stated (marks bytes answer whole) = answer ∷ bit whole ∷ []
 stated (ends bytes ending) = ended ∷ ending ∷ []
 stated (die revision id) = 0 ∷ id ∷ []
 stated (half word count complete size) = 0 ∷ size ∷ count ∷ bit complete ∷ []

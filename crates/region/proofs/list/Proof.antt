@@ -59,7 +59,18 @@ region-walk-requires c κs =
     let bounds = bounded c in
     let passed = laid-out bounds .before in
     let v = valid-rows (now (start (passed .before) .args .rules)) (good passed) in
-    rw (bounds .bounds-of .ensures) (search (needs, v))
+    rw (bounds .bounds-of .ensures)
+    (record {
+      offsets = search needs;
+      deep = search needs;
+      sound = record {
+        limit = search needs;
+        room = search needs;
+        rows = search needs;
+        columns = search (needs, v);
+        blank = laid-out bounds .columns-of .ensures .1;
+      };
+    })
 
 returns-3 : tie.Need-returns-3
 returns-3 c =
@@ -73,7 +84,7 @@ returns-3 c =
     with-fit (now (a .rules)) (now (a .region)) (a .limit) (now (a .spans))
     (rw (c .before .number-of .ensures .0, answered .answer-of .ensures)
     (listed-run (now (a .rules)) (now (a .region)) (a .limit) (now (a .spans)) (omega arith) (good passed) (y .last .1 .1 .1 .1 .1 .1 .1 .1 .1 .0, y .result)
-    (rw (bounds .bounds-of .ensures, bounds .before .room-of .ensures, columns .columns-of .ensures) at (y .ensures))))
+    (rw (bounds .bounds-of .ensures, bounds .before .room-of .ensures, columns .columns-of .ensures .0) at (y .ensures))))
 
 pub list-spec : {M : Type 1} → statement M
 list-spec =

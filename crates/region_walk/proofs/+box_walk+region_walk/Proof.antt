@@ -3,9 +3,10 @@
 use Prim.Native.Nat.{ℕ, _+_, _-_, _*_, _≤_, _<_}
 use mathlib.Core.Path.{_≡_, refl, sym, ap, _∙_}
 use mathlib.Core.List.{List}
-use mathlib.Core.Bool.{Bool}
+use mathlib.Core.Bool.{Bool, _&&_}
 use mathlib.Core.Logic.{inl, inr, ⊎-elim}
 use native.Mathlib.Omega.{arith}
+use lib.Dec.{leb}
 use lib.ListN.{length, length-drop}
 use borrow.Author.Needs.{needs}
 use denote.Ref.{now}
@@ -14,6 +15,7 @@ use Rattle.rules.specs.Rules.{flagsOf}
 use Rattle.header_judge.specs.Version.{noWord}
 use Rattle.region_try.proofs.Tries.{box-deep, box-short}
 use Rattle.region_try.proofs.Runs.{run-empty}
+use Rattle.region_try.proofs.Whole.{box-shut, box-header, box-opens}
 use Rattle.region_walk.specs.Steps.{limitIn, roomIn, tableIn, going}
 use Rattle.region_walk.specs.declared.Walked.{Walked}
 use Rattle.region_walk.proofs.Turn.{held-fits, child-counts, Place, rest, entire, rest-start, rest-same, rest-end, rest-spent, Tried, tried-at, remembered, stop-turn, full-turn, row-free, row-bounds, row-held, plain-turn, box-turn, box-cut, tag-cut}
@@ -29,6 +31,7 @@ use Rattle.header_judge.proofs.version.word_of.Reads as word-of-reads
 use Rattle.region_walk.proofs.counts.Reads as counts-reads
 use Rattle.region_walk.proofs.walk_end.Reads as walk-end-reads
 use Rattle.region_try.proofs.try_at.Reads as try-at-reads
+use Rattle.region_try.proofs.stop.clean_stop.Reads as clean-stop-reads
 use Rattle.rules.proofs.columns.flags.Reads as flags-reads
 use Rattle.region_walk.proofs.+box_walk+region_walk.{statement}
 use Rattle.region_walk.proofs.+box_walk+region_walk.Tie.{close}
@@ -69,15 +72,17 @@ module _ (t : ℕ) where
   box-returns : InBox box.Need-returns t
   box-returns c =
       let a = c .before .before .before .before .args in
-      rw (c .counts .ensures)
+      rw (c .counts .ensures, box-shut (a .whole) (a .levels) (a .size) (length (now (a .held))) (omega arith))
       (run-empty (limitIn (now (a .bounds))) (roomIn (now (a .bounds))) _ (going (now (a .spans)) (a .row + 1) (a .tries) (a .whole))
       (box-deep (tableIn (now (a .rules)) (now (a .bounds))) (a .levels) (now (a .held)) (a .base) (a .size) (a .row) (omega arith)))
 
   box-returns-2 : InBox box.Need-returns-2 t
   box-returns-2 c =
-      let a = c .before .before .before .before .before .args in
-      rw (c .counts2 .ensures)
-      (run-empty (limitIn (now (a .bounds))) (roomIn (now (a .bounds))) _ (going (now (a .spans)) (a .row + 1) (a .tries) (a .whole))
+      let s = c .before .before .before .before .before in
+      let a = s .args in
+      let n = length (now (a .held)) in
+      rw (c .counts2 .ensures, box-header (a .whole) (a .levels) (a .size) n (omega arith) (s .pre .1 .0 .deep))
+      (run-empty (limitIn (now (a .bounds))) (roomIn (now (a .bounds))) _ (going (now (a .spans)) (a .row + 1) (a .tries) (a .whole && leb (a .size) n))
       (box-short (tableIn (now (a .rules)) (now (a .bounds))) (a .levels) (now (a .held)) (a .base) (a .size) (a .row) (omega arith)))
 
   box-region-walk-requires : InBox box.Need-region-walk-requires t
@@ -90,8 +95,9 @@ module _ (t : ℕ) where
   box-returns-3 c =
       let walked = c .before .before .before in
       let opened = walked .before .before .before in
-      let a = opened .before .before .before .before .args in
-      rw (c .counts3 .ensures)
+      let s = opened .before .before .before .before in
+      let a = s .args in
+      rw (c .counts3 .ensures, box-opens (a .whole) (a .levels) (a .size) (length (now (a .held))) (omega arith) (s .pre .1 .0 .deep) (omega arith))
       (child-counts (tableIn (now (a .rules)) (now (a .bounds))) (limitIn (now (a .bounds))) (roomIn (now (a .bounds))) (a .levels) (now (a .held)) (a .base) (a .size) (a .row)
       (going (now (a .spans)) (a .row + 1) (a .tries) (a .whole)) (omega arith) (omega arith)
       (rw (tail-part (now (a .held)) (a .size)) at (walked .region-walk .ensures)))
@@ -109,11 +115,11 @@ record Going-on (p : Place) (t₀ : List ℕ) (start : List ℕ × Walked) (t : 
   ends : start ≡ rest p at t rows tries whole
 
 abbrev Inv-loop : region.InvT-loop
-Inv-loop bytes rules bounds base levels parent rows₀ tries₀ whole₀ spans₀ last₀ known₀ at₀ rows tries whole spans last known at =
+Inv-loop bytes rules bounds base levels rows₀ whole₀ parent tries₀ spans₀ last₀ known₀ at₀ rows whole tries spans last known at =
     Going-on (placed bytes rules bounds base levels parent) spans₀ (entire (placed bytes rules bounds base levels parent) spans₀ rows₀ tries₀ whole₀) spans rows tries whole last known at
 
 abbrev μ-loop : region.MeasureT-loop
-μ-loop bytes rules bounds base levels parent rows₀ tries₀ whole₀ spans₀ last₀ known₀ at₀ rows tries whole spans last known at =
+μ-loop bytes rules bounds base levels rows₀ whole₀ parent tries₀ spans₀ last₀ known₀ at₀ rows whole tries spans last known at =
     length bytes - at
 
 abbrev RegionCalls : ℕ → region.Claims
@@ -126,6 +132,8 @@ RegionCalls t = (
   flags-reads.Learnt,
   try-at-reads.Asked,
   try-at-reads.Learnt,
+  clean-stop-reads.Asked,
+  clean-stop-reads.Learnt,
   box-walk-below t,
   box-walk.Post,
 )
@@ -195,10 +203,11 @@ module _ (t : ℕ) where
 
   returns-2 : InRegion region.Need-returns-2 t
   returns-2 c =
-      let stopped = c .before .before in
+      let judged = c .before in
+      let stopped = judged .before .before in
       let y = stopped .before .before .before .before in
       let l = loop t y .loop in
-      rw (c .walk-end2 .ensures) (sym (l .inv .ends ∙ stop-turn (turn t y) (l .whole) (stopped .tried .given .1)))
+      rw (c .walk-end2 .ensures, judged .clean-stop .ensures) (sym (l .inv .ends ∙ stop-turn (turn t y) (l .whole) (stopped .tried .given .1)))
 
   returns-3 : InRegion region.Need-returns-3 t
   returns-3 c =
@@ -235,7 +244,7 @@ module _ (t : ℕ) where
       let o = w .sound in
       let here = inside t y .loop-test .taken in
       let offsets = held-fits (now (s .args .bytes)) (s .args .base) (l .at) (l .at + d .tried2 .given .0 .0 - l .at) (w .offsets) (omega arith) in
-      (omega arith, (record { offsets = offsets; deep = w .deep; sound = record { limit = o .limit; room = o .room; rows = omega (arith, long t y, o .rows); rules = o .rules } }, free d))
+      (omega arith, (record { offsets = offsets; deep = w .deep; sound = record { limit = o .limit; room = o .room; rows = omega (arith, long t y, o .rows); columns = o .columns; blank = o .blank } }, free d))
 
   -- the Box was walked
   abbrev boxed : InRegion region.After-box-walk t → InRegion region.After-tried2 t
@@ -278,8 +287,8 @@ module _ (t : ℕ) where
       let ends : entire p (now (s .spans)) (s .rows) (s .tries) (s .whole) ≡ rest p next (c .if3 .spans) (c .if3 .rows) (c .if3 .tries) (c .if3 .whole) =
       l .inv .ends
       ∙ ⊎-elim
-      (λ q. box-turn (turn t y) (l .whole) (r .1) (q .0 .taken) (q .3 .ensures) (q .7 .given .1) ∙ rest-same p next (q .11) (omega (arith, q .8)) (omega (arith, q .9)) (q .10))
-      (λ q. plain-turn (turn t y) (l .whole) (r .1) (q .0 .left) ∙ rest-same p next (q .4) (omega (arith, q .1)) (omega (arith, q .2)) (q .3))
+      (λ q. box-turn (turn t y) (l .whole) (r .1) (q .0 .taken) (q .3 .ensures) (q .7 .given .1) ∙ rest-same p next (q .11) (omega (arith, q .8)) (omega (arith, q .10)) (q .9))
+      (λ q. plain-turn (turn t y) (l .whole) (r .1) (q .0 .left) ∙ rest-same p next (q .4) (omega (arith, q .1)) (omega (arith, q .3)) (q .2))
       (c .if3 .came) in
       record { flags = kept t y; same = same; ends = ends }
 
@@ -339,6 +348,7 @@ pub +box-walk+region-walk-spec : {M : Type 1} → statement M
     (λ c. search needs)
     (try-at-requires t)
     (λ c. search needs)
+    (λ c κs. search needs)
     (λ c κs. search needs)
     (λ c. search needs)
     (returns-2 t)

@@ -8,8 +8,8 @@ use lib.ListN.{length, getD, take, drop, length-set}
 use lib.Seq.{take-add, take-all}
 use denote.Ref.{now}
 use Rattle.rules.proofs.Rows.{drop-three}
-use Rattle.rules.specs.Columns.{rulesFrom}
-use Rattle.rules.proofs.ColumnRows.{from-none, stored, one-more}
+use Rattle.rules.specs.Columns.{rulesFrom, Blank}
+use Rattle.rules.proofs.ColumnRows.{zero-at, from-none, stored, past-blank, one-more}
 use borrow.Author.Needs.{needs}
 use Rattle.rules.proofs.columns.columns_of.Statement.{statement}
 use Rattle.rules.proofs.columns.columns_of.Tie as tie
@@ -22,26 +22,26 @@ copied xs t row at h g l e =
     one-more t row _ _ _ g l ∙ rw (take-add at 3 xs, new, e)
 
 abbrev Inv-loop : tie.InvT-loop
-Inv-loop rules columns₀ row₀ at₀ columns row at = (at ≡ row * 3) × (at ≤ length rules) × (length columns ≡ 192) × (rulesFrom columns 0 row ≡ take at rules)
+Inv-loop rules columns₀ row₀ at₀ columns row at = (at ≡ row * 3) × (at ≤ length rules) × (length columns ≡ 192) × (rulesFrom columns 0 row ≡ take at rules) × Blank columns row
 
 abbrev μ-loop : tie.MeasureT-loop
 μ-loop rules columns₀ row₀ at₀ columns row at = length rules - at
 
 loop-holds : tie.Need-loop-holds Inv-loop μ-loop
-loop-holds c = (omega arith, omega arith, omega arith, from-none _ 0)
+loop-holds c = (omega arith, omega arith, omega arith, from-none _ 0, λ row h. zero-at 192 (row + 128))
 
 loop-again : tie.Need-loop-again Inv-loop μ-loop
 loop-again c =
     let l = c .before .before .before .before .loop in
     let xs = now (c .before .before .before .before .before .args .rules) in
-    (omega arith, omega arith, simp length-set (l .inv .2), copied xs (l .columns) (l .row) (l .at) (omega arith) (omega arith) (l .inv .2) (l .inv .3))
+    (omega arith, omega arith, simp length-set (l .inv .2), copied xs (l .columns) (l .row) (l .at) (omega arith) (omega arith) (l .inv .2) (l .inv .3), past-blank (l .columns) (l .row) _ _ _ (omega arith) (l .inv .4))
 
 returns : tie.Need-returns Inv-loop μ-loop
 returns c =
     let xs = now (c .before .before .args .rules) in
     let l = c .before .loop in
     let rows : length xs / 3 ≡ l .row = omega arith in
-    rw rows (l .inv .3 ∙ take-all (l .at) xs (omega arith))
+    (rw rows (l .inv .3 ∙ take-all (l .at) xs (omega arith)), rw rows (l .inv .4))
 
 pub columns-of-spec : {M : Type 1} → statement M
 columns-of-spec =

@@ -1,0 +1,78 @@
+-- `whole` in document 02's words (C-14): four clauses, over the answer, the rows in the table, the regions walked and the Boxes among the rows.
+use Prim.Native.Nat.{ℕ, zero, suc, _<_}
+use mathlib.Core.Path.{_≡_}
+use mathlib.Core.List.{List, [], _∷_}
+use mathlib.Core.Bool.{true, cond}
+use mathlib.Core.Logic.{_⊎_}
+use lib.Dec.{leb}
+use lib.ListN.{length, drop}
+use Rattle.header_judge.specs.Head.{isBox, headOf}
+use Rattle.region_rows.specs.declared.Span.{Span}
+use Rattle.region_rows.specs.Rows.{spansIn}
+use Rattle.region_try.specs.Stops.{stopOf}
+use Rattle.region_try.specs.Tries.{deepest}
+use Rattle.region_try.specs.declared.stop.Stop.{Stop}
+use Rattle.region_try.specs.declared.stop.Stop.the-variants.{EndOfInput, ZeroWord, DeadbeefWord}
+use Rattle.region.specs.Listing.{numberOf}
+use Rattle.region.specs.declared.Listing.{Listing}
+use Rattle.region_laws.specs.Positions.{following}
+use Rattle.region_laws.specs.Reach.{standingLast}
+
+-- ---- what the clauses speak of
+
+-- something holds of each in a list
+unfoldable pub Every : {A : Type 0} → (A → Type 0) → List A → Type 0
+Every P [] = Unit {0}
+Every P (x ∷ xs) = P x × Every P xs
+
+-- the rows that a listing leaves in its table
+abbrev pub rowsOf : List ℕ × Listing → List Span
+rowsOf end = spansIn (end .0) (end .1 .rows)
+
+-- the regions inside a Box: from its held bytes and its header's size
+abbrev pub Regions : Type 0
+Regions = List ℕ → ℕ → List (List ℕ)
+
+module _ (rules : List ℕ) where
+  -- the regions inside the Boxes of a region, after `skip` of its bytes
+  unfoldable pub inBoxes : Regions → ℕ → List ℕ → List (List ℕ)
+  inBoxes box skip [] = []
+  inBoxes box (suc k) (b ∷ bs) = inBoxes box k bs
+  inBoxes box zero (b ∷ bs) = following box (b ∷ bs) (headOf rules (b ∷ bs)) (λ skip. inBoxes box skip bs)
+
+  -- those inside a Box whose region has so many levels left: where it is opened, the bytes after its header and those inside their Boxes
+  unfoldable pub ofBox : ℕ → Regions
+  ofBox zero held size = []
+  ofBox (suc levels) held size = cond (leb size (length held)) (drop size held ∷ inBoxes (ofBox levels) 0 (drop size held)) []
+
+-- the regions walked where nothing is cut off: the whole input, and those inside its Boxes
+abbrev pub regionsWalked : List ℕ → List ℕ → List (List ℕ)
+regionsWalked rules bytes = bytes ∷ inBoxes rules (ofBox rules deepest) 0 bytes
+
+-- ---- the clauses
+
+-- the answer is 0
+abbrev pub Answered : List ℕ × Listing → Type 0
+Answered end = numberOf (end .1 .answer) ≡ 0
+
+-- a row holds no less than it declares
+abbrev pub Held : Span → Type 0
+Held r = r .held < r .declared → ⊥
+
+-- a region stopped at its input's end, or at a zero or 0xdeadbeef word
+abbrev pub Clean : Stop → Type 0
+Clean stop = (stop ≡ EndOfInput) ⊎ ((stop ≡ ZeroWord) ⊎ (stop ≡ DeadbeefWord))
+
+abbrev pub StoppedClean : List ℕ → List ℕ → Type 0
+StoppedClean rules region = Clean (stopOf (standingLast rules region))
+
+-- a row is no Box below level 4 that was left unopened because its header exceeds its held bytes
+abbrev pub Opened : Span → Type 0
+Opened r = isBox (r .word) (r .flags) ≡ true → r .level < deepest → r .held < r .size → ⊥
+
+-- all four
+pub record IsWhole (rules bytes : List ℕ) (end : List ℕ × Listing) : Type 0 where
+  pub answered : Answered end
+  pub held : Every Held (rowsOf end)
+  pub stopped : Every (StoppedClean rules) (regionsWalked rules bytes)
+  pub opened : Every Opened (rowsOf end)
