@@ -20,17 +20,16 @@ use Rattle.region_rows.proofs.Rows.{spans-laid}
 use Rattle.region_try.specs.Stops.{stopBy, stopOf, badTypeOf}
 use Rattle.region_try.specs.Tries.{Try, none, hit, spanOf, tryOf, deepest, rowsFound, Inside, within, onward, records, boxTries, regionTries, allTries}
 use Rattle.region_try.specs.Whole.{cleanStop, filled, boxUnopened, keepsWhole, allKeepWhole}
-use Rattle.region_try.specs.declared.Cut.{Cut}
-use Rattle.region_try.specs.declared.Cut.the-variants.{Going, Full, Spent}
 use Rattle.region_try.specs.declared.stop.Stop as Stop
 use Rattle.region_try.specs.declared.stop.Stop.{Stop}
-use Rattle.region.specs.Listing.{Shown, numberOf, answerOf, topStands, shown, showing, walked, listed}
+use Rattle.region.specs.Listing.{Shown, numberOf, topStands, shown, showing, walked, listed}
 use Rattle.region.specs.declared.Listing.{Listing}
 use Rattle.region.proofs.Shows.{listed-cases}
-use Rattle.region_laws.specs.Positions.{byHead, following}
+use Rattle.region_laws.specs.Nested.{byHead, following, Gather, inRegion, inBox, gathered}
 use Rattle.region_laws.specs.Reach.{onto, reach, standingIn, standingLast}
-use Rattle.region_laws.specs.Clauses.{Every, rowsOf, Regions, inBoxes, ofBox, regionsWalked, Answered, Held, Clean, StoppedClean, Opened, IsWhole}
+use Rattle.region_laws.specs.Clauses.{Every, rowsOf, regionsWalked, Answered, Held, Clean, StoppedClean, Opened, IsWhole}
 use Rattle.region_laws.proofs.Shown.{going-rows}
+use Rattle.region_laws.proofs.Refusals.{uncut}
 use Rattle.region_laws.proofs.Reach.{told-stands}
 
 -- ---- tests of each in a list
@@ -96,12 +95,19 @@ module _ (rules : List ℕ) where
   abbrev clean : List ℕ → Bool
   clean region = cleanStop (stopOf (standingLast rules region))
 
-  -- the tries inside a Box stop as its regions do
-  abbrev Agree : Inside → Regions → Type 0
-  Agree box regions = (held : List ℕ) (offset size row : ℕ) → all stopsClean (box held offset size row) ≡ all clean (regions held size)
+  -- the regions inside a region, and inside a Box
+  abbrev regionsIn : Gather (List ℕ) → ℕ → List ℕ → ℕ → List (List ℕ)
+  regionsIn = inRegion rules (λ (region : List ℕ). region ∷ []) (λ (at : ℕ). [])
 
-  module _ (box : Inside) (regions : Regions) (agree : Agree box regions) where
-    within-clean : (boxed : Bool) (held : List ℕ) (offset size row : ℕ) → all stopsClean (cond boxed (box held offset size row) []) ≡ all clean (cond boxed (regions held size) [])
+  abbrev regionsOf : ℕ → Gather (List ℕ)
+  regionsOf = inBox rules (λ (region : List ℕ). region ∷ []) (λ (at : ℕ). [])
+
+  -- the tries inside a Box stop as its regions do
+  abbrev Agree : Inside → Gather (List ℕ) → Type 0
+  Agree box regions = (held : List ℕ) (offset size row : ℕ) → all stopsClean (box held offset size row) ≡ all clean (regions offset held size)
+
+  module _ (box : Inside) (regions : Gather (List ℕ)) (agree : Agree box regions) where
+    within-clean : (boxed : Bool) (held : List ℕ) (offset size row : ℕ) → all stopsClean (cond boxed (box held offset size row) []) ≡ all clean (cond boxed (regions offset held size) [])
     unfolding all
     within-clean true held offset size row = agree held offset size row
     within-clean false held offset size row = refl
@@ -109,7 +115,7 @@ module _ (rules : List ℕ) where
     onward-clean : (level parent offset b : ℕ) (bs : List ℕ) (n : ℕ) (head : Head) (rest : ℕ → ℕ → List Try) (after : ℕ → List (List ℕ))
         → headOf rules (b ∷ bs) ≡ head → ((k m : ℕ) → all stopsClean (rest k m) ≡ (cleanIn (drop (reach rules k bs) bs) && all clean (after k)))
         → all stopsClean (onward box (b ∷ bs) n (tryOf level parent offset (length (b ∷ bs)) head) rest)
-        ≡ (cleanIn (drop (onto head (λ skip. reach rules skip bs)) (b ∷ bs)) && all clean (following regions (b ∷ bs) head after))
+        ≡ (cleanIn (drop (onto head (λ skip. reach rules skip bs)) (b ∷ bs)) && all clean (following (regions offset) (b ∷ bs) head after))
     unfolding onward tryOf byHead all
     onward-clean level parent offset b bs n (Ended ending) rest after e go = rw e
     onward-clean level parent offset b bs n BadHeader rest after e go = rw e
@@ -123,7 +129,7 @@ module _ (rules : List ℕ) where
         inner = within box (take declared (b ∷ bs)) row n
 
         held : List (List ℕ)
-        held = cond (isBox word flags) (regions (take declared (b ∷ bs)) size) []
+        held = cond (isBox word flags) (regions offset (take declared (b ∷ bs)) size) []
 
         later : List Try
         later = rest (declared - 1) (n + 1 + length (rowsFound inner))
@@ -139,31 +145,31 @@ module _ (rules : List ℕ) where
             ∙ ap (λ (a : Bool). cleanIn (drop (reach rules (declared - 1) bs) bs) && a) (sym (all-append clean held (after (declared - 1))))
 
     records-clean : (levels parent skip : ℕ) (bs : List ℕ) (offset n : ℕ)
-        → all stopsClean (records rules box levels parent skip bs offset n) ≡ (cleanIn (drop (reach rules skip bs) bs) && all clean (inBoxes rules regions skip bs))
-    unfolding records reach inBoxes all
+        → all stopsClean (records rules box levels parent skip bs offset n) ≡ (cleanIn (drop (reach rules skip bs) bs) && all clean (regionsIn regions skip bs offset))
+    unfolding records reach inRegion all
     records-clean levels parent zero [] offset n = refl
     records-clean levels parent (suc k) [] offset n = refl
     records-clean levels parent (suc k) (b ∷ bs) offset n = records-clean levels parent k bs (offset + 1) n
     records-clean levels parent zero (b ∷ bs) offset n =
         onward-clean (deepest - levels) parent offset b bs n (headOf rules (b ∷ bs))
-        (λ k m. records rules box levels parent k bs (offset + 1) m) (λ k. inBoxes rules regions k bs) refl
+        (λ k m. records rules box levels parent k bs (offset + 1) m) (λ k. regionsIn regions k bs (offset + 1)) refl
         (λ k m. records-clean levels parent k bs (offset + 1) m)
 
-  box-clean : (levels : ℕ) → Agree (boxTries rules levels) (ofBox rules levels)
-  unfolding boxTries ofBox all
+  box-clean : (levels : ℕ) → Agree (boxTries rules levels) (regionsOf levels)
+  unfolding boxTries inBox all
   box-clean zero held offset size row = refl
   box-clean (suc l) held offset size row = by (box-clean l) (leb size (length held))
     where
-      by : Agree (boxTries rules l) (ofBox rules l) → (b : Bool)
+      by : Agree (boxTries rules l) (regionsOf l) → (b : Bool)
           → all stopsClean (cond b (records rules (boxTries rules l) l row 0 (drop size held) (offset + size) (row + 1)) [])
-          ≡ all clean (cond b (drop size held ∷ inBoxes rules (ofBox rules l) 0 (drop size held)) [])
-      by agree true = records-clean (boxTries rules l) (ofBox rules l) agree l row 0 (drop size held) (offset + size) (row + 1)
+          ≡ all clean (cond b (drop size held ∷ regionsIn (regionsOf l) 0 (drop size held) (offset + size)) [])
+      by agree true = records-clean (boxTries rules l) (regionsOf l) agree l row 0 (drop size held) (offset + size) (row + 1)
       by agree false = refl
 
   -- the tries that stop a region are the stops of the regions walked
   all-clean : (bytes : List ℕ) → all stopsClean (allTries rules bytes) ≡ all clean (regionsWalked rules bytes)
-  unfolding allTries regionTries all
-  all-clean bytes = records-clean (boxTries rules deepest) (ofBox rules deepest) (box-clean deepest) deepest top 0 bytes 0 0
+  unfolding allTries regionTries gathered all
+  all-clean bytes = records-clean (boxTries rules deepest) (regionsOf deepest) (box-clean deepest) deepest top 0 bytes 0 0
 
 -- ---- the clauses
 
@@ -205,12 +211,6 @@ opened-exactly r = (λ e boxed level size. shut boxed level size (not-true (boxU
         let sizes = both (ltb (r .level) deepest) (ltb (r .held) (r .size)) (boxed .1) in
         absurd (f (boxed .0) (ltb-true _ _ (sizes .0)) (ltb-true _ _ (sizes .1)))
 
--- answer 0 is that of a walk that is not cut off
-done-going : (cut : Cut) (n : ℕ) (stop : Stop) (type : ℕ) → numberOf (answerOf cut n stop type) ≡ 0 → cut ≡ Going
-done-going Going n stop type e = refl
-done-going Full n stop type e = absurd (omega arith)
-done-going Spent n stop type e = absurd (omega arith)
-
 module _ (rules bytes : List ℕ) where
   abbrev rows : List Span
   rows = rowsFound (allTries rules bytes)
@@ -239,7 +239,7 @@ module _ (rules bytes : List ℕ) where
     rows-are : Answered end → rowsOf end ≡ rows
     rows-are e =
         spans-laid (seen .rows) t
-        ∙ going-rows limit (capacity t) (allTries rules bytes) (done-going (seen .cut) (length (seen .rows)) (stopOf (topStands rules bytes)) (badTypeOf (topStands rules bytes)) e)
+        ∙ going-rows limit (capacity t) (allTries rules bytes) (uncut (seen .cut) (length (seen .rows)) (stopOf (topStands rules bytes)) (badTypeOf (topStands rules bytes)) (omega (arith, e)))
 
     whole-clauses : end .1 .whole ≡ true → IsWhole rules bytes end
     whole-clauses w =
@@ -272,7 +272,7 @@ module _ (rules bytes : List ℕ) (limit : ℕ) (t : List ℕ) where
 
   -- why the top region of a whole listing stopped, as it is told
   pub whole-stop : listed rules bytes limit t .1 .whole ≡ true → Clean (listed rules bytes limit t .1 .stop)
-  unfolding Every
+  unfolding Every gathered
   whole-stop w =
       let x = whole-exactly .0 w in
       rw (told-stands rules bytes limit t (rw (x .answered))) (x .stopped .0)

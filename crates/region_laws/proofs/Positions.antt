@@ -11,7 +11,8 @@ use Rattle.header_judge.specs.declared.Head.the-variants.{Ended, BadHeader, Bad
 use Rattle.header_judge.specs.Head.{isBox, headOf}
 use Rattle.region_rows.specs.declared.Span.{Span}
 use Rattle.region_try.specs.Tries.{spanOf, Try, none, hit, tryOf, deepest, rowsFound, Inside, within, onward, records, boxTries, regionTries, allTries}
-use Rattle.region_laws.specs.Positions.{offsetOf, InsideAt, byHead, following, positions, inBox, visited}
+use Rattle.region_laws.specs.Nested.{byHead, following, Gather, inRegion, inBox, gathered}
+use Rattle.region_laws.specs.Positions.{offsetOf, visited}
 
 abbrev offsets : List Try → List ℕ
 offsets vs = map offsetOf vs
@@ -25,11 +26,18 @@ length-offsets [] = refl
 length-offsets (v ∷ vs) = ap suc (length-offsets vs)
 
 module _ (rules : List ℕ) where
+  -- the positions in a region, and inside a Box
+  abbrev positionsIn : Gather ℕ → ℕ → List ℕ → ℕ → List ℕ
+  positionsIn = inRegion rules (λ (region : List ℕ). []) (λ (at : ℕ). at ∷ [])
+
+  abbrev positionsOf : ℕ → Gather ℕ
+  positionsOf = inBox rules (λ (region : List ℕ). []) (λ (at : ℕ). at ∷ [])
+
   -- the tries inside a Box are made at its positions
-  abbrev Agree : Inside → InsideAt → Type 0
+  abbrev Agree : Inside → Gather ℕ → Type 0
   Agree box at = (held : List ℕ) (offset size row : ℕ) → offsets (box held offset size row) ≡ at offset held size
 
-  module _ (box : Inside) (inside : InsideAt) (agree : Agree box inside) where
+  module _ (box : Inside) (inside : Gather ℕ) (agree : Agree box inside) where
     within-at : (boxed : Bool) (held : List ℕ) (offset size row : ℕ) → offsets (cond boxed (box held offset size row) []) ≡ cond boxed (inside offset held size) []
     within-at true held offset size row = agree held offset size row
     within-at false held offset size row = refl
@@ -58,30 +66,30 @@ module _ (rules : List ℕ) where
             (offsets-append tries (rest (declared - 1) (n + 1 + length (rowsFound tries)))
             ∙ ap₂ (λ (a b : List ℕ). a ++ b) (within-at (isBox word flags) (take declared bs) offset size n) (e (declared - 1) (n + 1 + length (rowsFound tries))))
 
-    records-at : (levels parent skip : ℕ) (bs : List ℕ) (offset n : ℕ) → offsets (records rules box levels parent skip bs offset n) ≡ positions rules inside skip bs offset
-    unfolding records positions
+    records-at : (levels parent skip : ℕ) (bs : List ℕ) (offset n : ℕ) → offsets (records rules box levels parent skip bs offset n) ≡ positionsIn inside skip bs offset
+    unfolding records inRegion
     records-at levels parent skip [] offset n = refl
     records-at levels parent (suc k) (b ∷ bs) offset n = records-at levels parent k bs (offset + 1) n
     records-at levels parent zero (b ∷ bs) offset n =
         onward-at (deepest - levels) parent offset (b ∷ bs) n (headOf rules (b ∷ bs))
-        (λ k m. records rules box levels parent k bs (offset + 1) m) (λ k. positions rules inside k bs (offset + 1))
+        (λ k m. records rules box levels parent k bs (offset + 1) m) (λ k. positionsIn inside k bs (offset + 1))
         (λ k m. records-at levels parent k bs (offset + 1) m)
 
-  box-at : (levels : ℕ) → Agree (boxTries rules levels) (inBox rules levels)
+  box-at : (levels : ℕ) → Agree (boxTries rules levels) (positionsOf levels)
   unfolding boxTries inBox
   box-at zero held offset size row = refl
   box-at (suc l) held offset size row = by (box-at l) (leb size (length held))
     where
-      by : Agree (boxTries rules l) (inBox rules l) → (b : Bool)
+      by : Agree (boxTries rules l) (positionsOf l) → (b : Bool)
           → offsets (cond b (records rules (boxTries rules l) l row 0 (drop size held) (offset + size) (row + 1)) [])
-          ≡ cond b (positions rules (inBox rules l) 0 (drop size held) (offset + size)) []
-      by agree true = records-at (boxTries rules l) (inBox rules l) agree l row 0 (drop size held) (offset + size) (row + 1)
+          ≡ cond b (positionsIn (positionsOf l) 0 (drop size held) (offset + size)) []
+      by agree true = records-at (boxTries rules l) (positionsOf l) agree l row 0 (drop size held) (offset + size) (row + 1)
       by agree false = refl
 
   -- each try is made at the next position that the walk visits
   pub tried-at-visited : (bytes : List ℕ) → map offsetOf (allTries rules bytes) ≡ visited rules bytes
-  unfolding allTries regionTries visited
-  tried-at-visited bytes = records-at (boxTries rules deepest) (inBox rules deepest) (box-at deepest) deepest _ 0 bytes 0 0
+  unfolding allTries regionTries gathered
+  tried-at-visited bytes = records-at (boxTries rules deepest) (positionsOf deepest) (box-at deepest) deepest _ 0 bytes 0 0
 
   pub tries-visited : (bytes : List ℕ) → length (allTries rules bytes) ≡ length (visited rules bytes)
   tries-visited bytes = sym (length-offsets (allTries rules bytes)) ∙ ap length (tried-at-visited bytes)

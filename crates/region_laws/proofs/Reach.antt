@@ -25,7 +25,7 @@ use Rattle.region_try.proofs.Stops.{past-within, past-box, ending-number}
 use Rattle.region.specs.Listing.{numberOf, answerOf, answerShown, topStands, shown, walked, listed}
 use Rattle.region.specs.declared.Listing.{Listing}
 use Rattle.region.proofs.Shows.{listed-cases}
-use Rattle.region_laws.specs.Positions.{byHead}
+use Rattle.region_laws.specs.Nested.{byHead}
 use Rattle.region_laws.specs.Reach.{onto, reach, position, standingIn, standingLast, tells}
 
 module _ (rules : List ℕ) where

@@ -22,12 +22,18 @@ use Rattle.region.proofs.Shows.{listed-cases}
 use Rattle.region_rows.proofs.Rows.{laid-none}
 use Rattle.region_laws.specs.Whole.{Alone}
 
--- such an answer is that of a walk that found no row and was not cut off
-uncut : (cut : Cut) (n : ℕ) (stop : Stop) (type : ℕ) → 3 ≤ numberOf (answerOf cut n stop type) → numberOf (answerOf cut n stop type) ≤ 5 → (cut ≡ Going) × (n ≡ 0)
-uncut Full n stop type h g = absurd (omega arith)
-uncut Spent n stop type h g = absurd (omega arith)
-uncut Going zero stop type h g = (refl, refl)
-uncut Going (suc n) stop type h g = absurd (omega arith)
+-- an answer up to 5 is that of a walk that was not cut off
+pub uncut : (cut : Cut) (n : ℕ) (stop : Stop) (type : ℕ) → numberOf (answerOf cut n stop type) ≤ 5 → cut ≡ Going
+uncut Full n stop type g = absurd (omega arith)
+uncut Spent n stop type g = absurd (omega arith)
+uncut Going n stop type g = refl
+
+-- from 3 to 5 of one that found no row
+rowless : (cut : Cut) (n : ℕ) (stop : Stop) (type : ℕ) → 3 ≤ numberOf (answerOf cut n stop type) → numberOf (answerOf cut n stop type) ≤ 5 → n ≡ 0
+rowless Full n stop type h g = absurd (omega arith)
+rowless Spent n stop type h g = absurd (omega arith)
+rowless Going zero stop type h g = refl
+rowless Going (suc n) stop type h g = absurd (omega arith)
 
 -- a walk that found no row and was not cut off made one try, if any
 onward-alone : (limit room : ℕ) (box : Inside) (bs : List ℕ) (n : ℕ) (v : Try) (rest : ℕ → ℕ → List Try)
@@ -73,8 +79,9 @@ module _ (rules bytes : List ℕ) (limit : ℕ) (t : List ℕ) where
       (λ h g. absurd (omega arith)) (λ h g. absurd (omega arith))
       (λ h g.
       let s = shown limit (capacity t) (allTries rules bytes) in
-      let q = uncut (s .cut) (length (s .rows)) (stopOf (topStands rules bytes)) (badTypeOf (topStands rules bytes)) h g in
-      record { table = laid-none (s .rows) t (q .1); rows = q .1; tries = tries-alone rules limit (capacity t) bytes (q .0) (q .1) })
+      let going = uncut (s .cut) (length (s .rows)) (stopOf (topStands rules bytes)) (badTypeOf (topStands rules bytes)) g in
+      let no-row = rowless (s .cut) (length (s .rows)) (stopOf (topStands rules bytes)) (badTypeOf (topStands rules bytes)) h g in
+      record { table = laid-none (s .rows) t no-row; rows = no-row; tries = tries-alone rules limit (capacity t) bytes going no-row })
 
   -- an empty region answers 5
   empty-answer : length bytes ≡ 0 → 3 ≤ number (listed rules bytes limit t) → number (listed rules bytes limit t) ≤ 5 → number (listed rules bytes limit t) ≡ 5

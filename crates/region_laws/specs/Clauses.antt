@@ -1,12 +1,10 @@
 -- `whole` in document 02's words (C-14): four clauses, over the answer, the rows in the table, the regions walked and the Boxes among the rows.
-use Prim.Native.Nat.{ℕ, zero, suc, _<_}
+use Prim.Native.Nat.{ℕ, _<_}
 use mathlib.Core.Path.{_≡_}
 use mathlib.Core.List.{List, [], _∷_}
-use mathlib.Core.Bool.{true, cond}
+use mathlib.Core.Bool.{true}
 use mathlib.Core.Logic.{_⊎_}
-use lib.Dec.{leb}
-use lib.ListN.{length, drop}
-use Rattle.header_judge.specs.Head.{isBox, headOf}
+use Rattle.header_judge.specs.Head.{isBox}
 use Rattle.region_rows.specs.declared.Span.{Span}
 use Rattle.region_rows.specs.Rows.{spansIn}
 use Rattle.region_try.specs.Stops.{stopOf}
@@ -15,7 +13,7 @@ use Rattle.region_try.specs.declared.stop.Stop.{Stop}
 use Rattle.region_try.specs.declared.stop.Stop.the-variants.{EndOfInput, ZeroWord, DeadbeefWord}
 use Rattle.region.specs.Listing.{numberOf}
 use Rattle.region.specs.declared.Listing.{Listing}
-use Rattle.region_laws.specs.Positions.{following}
+use Rattle.region_laws.specs.Nested.{gathered}
 use Rattle.region_laws.specs.Reach.{standingLast}
 
 -- ---- what the clauses speak of
@@ -29,25 +27,9 @@ Every P (x ∷ xs) = P x × Every P xs
 abbrev pub rowsOf : List ℕ × Listing → List Span
 rowsOf end = spansIn (end .0) (end .1 .rows)
 
--- the regions inside a Box: from its held bytes and its header's size
-abbrev pub Regions : Type 0
-Regions = List ℕ → ℕ → List (List ℕ)
-
-module _ (rules : List ℕ) where
-  -- the regions inside the Boxes of a region, after `skip` of its bytes
-  unfoldable pub inBoxes : Regions → ℕ → List ℕ → List (List ℕ)
-  inBoxes box skip [] = []
-  inBoxes box (suc k) (b ∷ bs) = inBoxes box k bs
-  inBoxes box zero (b ∷ bs) = following box (b ∷ bs) (headOf rules (b ∷ bs)) (λ skip. inBoxes box skip bs)
-
-  -- those inside a Box whose region has so many levels left: where it is opened, the bytes after its header and those inside their Boxes
-  unfoldable pub ofBox : ℕ → Regions
-  ofBox zero held size = []
-  ofBox (suc levels) held size = cond (leb size (length held)) (drop size held ∷ inBoxes (ofBox levels) 0 (drop size held)) []
-
--- the regions walked where nothing is cut off: the whole input, and those inside its Boxes
+-- the regions walked where nothing is cut off: the whole input, and what each opened Box holds after its header
 abbrev pub regionsWalked : List ℕ → List ℕ → List (List ℕ)
-regionsWalked rules bytes = bytes ∷ inBoxes rules (ofBox rules deepest) 0 bytes
+regionsWalked rules bytes = gathered rules (λ region. region ∷ []) (λ at. []) bytes
 
 -- ---- the clauses
 

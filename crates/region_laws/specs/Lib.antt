@@ -1,3 +1,4 @@
+pub mod Nested
 pub mod Positions
 pub mod Whole
 pub mod Reach

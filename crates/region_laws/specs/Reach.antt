@@ -1,4 +1,4 @@
--- How far the walk of the top region comes, what stands there, and with which answers that is told, without tries, rows, limit or table
+-- How far the walk of a region comes by its own records, what stands there, and with which answers that is told of the top region
 -- (document 02, C-12).
 use Prim.Native.Nat.{ℕ, zero, suc, _-_}
 use mathlib.Core.List.{List, [], _∷_}
@@ -8,7 +8,7 @@ use lib.ListN.{drop}
 use Rattle.header_judge.specs.declared.Head.{Head}
 use Rattle.header_judge.specs.Head.{headOf}
 use Rattle.region_try.specs.Stops.{Standing, noByte, header}
-use Rattle.region_laws.specs.Positions.{byHead}
+use Rattle.region_laws.specs.Nested.{byHead}
 
 -- how far the walk comes from a header on: nowhere where the region stops; else past this byte and as far as the rest, which is given the bytes to skip
 abbrev pub onto : Head → (ℕ → ℕ) → ℕ
@@ -21,7 +21,7 @@ module _ (rules : List ℕ) where
   reach (suc k) (b ∷ bs) = suc (reach k bs)
   reach zero (b ∷ bs) = onto (headOf rules (b ∷ bs)) (λ skip. reach skip bs)
 
-  -- the position at which the top walk stops
+  -- the position at which a region stops
   abbrev pub position : List ℕ → ℕ
   position bytes = reach 0 bytes
 
@@ -30,7 +30,7 @@ module _ (rules : List ℕ) where
   standingIn [] = noByte
   standingIn (b ∷ bs) = header (headOf rules (b ∷ bs))
 
-  -- what stands where the top walk stops
+  -- what stands where a region stops
   abbrev pub standingLast : List ℕ → Standing
   standingLast bytes = standingIn (drop (position bytes) bytes)
 
