@@ -105,6 +105,7 @@ static void try_lists(void)
     for (uint32_t type = 0; type < 7; type++)
         try_nest(type, 0, sizes[type]);
     try_nest(0, CRASHLOG_LEGACY_SERVER | CRASHLOG_LEGACY_SERVER_BOX, 32);
+    try_nest(0, CRASHLOG_LEGACY_GPU, 32);
     try_nest(7, 0, 8);
     length = CRASHLOG_MOST_BYTES + 1;
     try(list);

@@ -1,7 +1,7 @@
 /*
  * Tries the C interface: round trips of headers, the refusals, what is told with each answer, the endings, why a region stops,
- * when a listing is whole, CPERs, names and Intel's rules. Prints nothing and ends with status 0 when all is as
- * include/crashlog.h says.
+ * when a listing is whole, its rooms, socket and die in its rows, CPERs, names and Intel's rules. Prints nothing and ends with
+ * status 0 when all is as include/crashlog.h says.
  */
 #include <stdio.h>
 #include <stdlib.h>
@@ -321,6 +321,7 @@ static void listings(void)
     EXPECT(spans[CRASHLOG_SPAN_OFFSET] == 0 && spans[CRASHLOG_SPAN_HELD] == 8);
     EXPECT(spans[CRASHLOG_SPAN_DECLARED] == 8 && spans[CRASHLOG_SPAN_HEADER_SIZE] == 8);
     EXPECT(spans[CRASHLOG_SPAN_VERSION] == 0x03123101 && spans[CRASHLOG_SPAN_FLAGS] == 0);
+    EXPECT(spans[CRASHLOG_SPAN_SOCKET] == 0 && spans[CRASHLOG_SPAN_DIE] == CRASHLOG_NO_DIE);
     EXPECT(spans[CRASHLOG_SPAN_WORDS] == 0xaaaaaaaa);
 }
 
@@ -425,6 +426,91 @@ static void wholes(void)
             whole_in(boxes, &contents[i]);
 }
 
+/* The room is in whole rows of ten numbers. */
+static void rooms(void)
+{
+    static const uint64_t rooms[] = {0, 8, 9, 10, 11, 16, 19, 20, 29, 30, 31};
+    uint8_t region[3 * 8]; /* three records */
+    uint32_t spans[31];
+
+    for (uint64_t at = 0; at < sizeof region; at += 8)
+        memcpy(region + at, "\x01\x31\x12\x03\x02\0\0", 8);
+    for (size_t i = 0; i < sizeof rooms / sizeof rooms[0]; i++) {
+        const uint64_t rows = rooms[i] / 10, words = rows * CRASHLOG_SPAN_WORDS;
+        const uint32_t answer = rows < 3 ? CRASHLOG_SPANS_FULL : CRASHLOG_DONE;
+
+        memset(spans, 0xaa, sizeof spans);
+        EXPECT(list(region, sizeof region, NULL, 0, 9, spans, rooms[i]) == answer && listed.rows == rows);
+        for (uint64_t row = 0; row < rows; row++)
+            EXPECT(spans[row * CRASHLOG_SPAN_WORDS + CRASHLOG_SPAN_OFFSET] == 8 * row);
+        EXPECT(all((const uint8_t *)(spans + words), sizeof spans - words * sizeof spans[0], 0xaa));
+    }
+}
+
+/* A row's socket and die. */
+static int comes_from(const uint32_t *span, uint32_t socket, uint32_t die)
+{
+    return span[CRASHLOG_SPAN_SOCKET] == socket && span[CRASHLOG_SPAN_DIE] == die;
+}
+
+/* A record that is an input of its own, with die 5 and socket 9 where type 6 has them, under a rule with some flags. */
+static void one_origin(uint8_t revision, uint8_t type, uint32_t flags, uint32_t socket, uint32_t die)
+{
+    const uint32_t rules[] = {0, 0, flags};
+    const uint8_t record[32] = {revision, (uint8_t)(0x30 | type), 0x12, 0x03, 8, [16] = 8, [24] = 5, 9};
+    uint32_t spans[CRASHLOG_SPAN_WORDS];
+
+    EXPECT(list(record, sizeof record, rules, 3, 9, spans, CRASHLOG_SPAN_WORDS) == CRASHLOG_DONE && listed.rows == 1);
+    EXPECT(comes_from(spans, socket, die) && spans[CRASHLOG_SPAN_FLAGS] == flags);
+}
+
+/*
+ * Records of any bytes in a Box, under a rule that applies to them and not to the Box: the socket and the die in each row are
+ * those of the header that a decode reads where the row says.
+ */
+static void origins_agree(uint8_t type, uint32_t flags)
+{
+    const uint32_t rules[] = {0x00fff000, 0x00123000, flags};
+    const uint8_t units = flags & CRASHLOG_SIZES_IN_BYTES ? 32 : 8;
+    uint8_t region[8 + 4 * 32] = {0x01, 0x41, 0x12, 0x3d, sizeof region / 4};
+    uint32_t spans[5 * CRASHLOG_SPAN_WORDS];
+    crashlog_header header;
+
+    for (uint8_t *record = region + 8; record < region + sizeof region; record += 32) {
+        for (int i = 0; i < 32; i++)
+            record[i] = next_byte();
+        memcpy(record + 1, (uint8_t[7]){0x30 | type, 0x12, 0x03, units}, 7);
+        memcpy(record + 16, (uint8_t[2]){units}, 2);
+        record[26] &= 0x80; /* no status word in type 6 */
+    }
+    EXPECT(list(region, sizeof region, rules, 3, 9, spans, sizeof spans / sizeof spans[0]) == CRASHLOG_DONE);
+    EXPECT(listed.rows == 5 && comes_from(spans, 0, CRASHLOG_NO_DIE));
+    for (const uint32_t *span = spans + CRASHLOG_SPAN_WORDS; span < spans + 5 * CRASHLOG_SPAN_WORDS;
+         span += CRASHLOG_SPAN_WORDS) {
+        EXPECT(decode(region + span[CRASHLOG_SPAN_OFFSET], 32, rules, 3, &header) == CRASHLOG_DONE);
+        int has_die = header.layout == 6 || header.layout == CRASHLOG_LAYOUT_LEGACY_SERVER;
+        EXPECT(comes_from(span, header.socket_id, has_die ? header.die_id : CRASHLOG_NO_DIE));
+    }
+}
+
+static void origins(void)
+{
+    for (uint8_t type = 0; type <= 5; type++)
+        one_origin(1, type, 0, 0, CRASHLOG_NO_DIE);
+    one_origin(1, 6, 0, 9, 5);
+    for (uint8_t type = 0; type <= 15; type++) {
+        one_origin(0x82, type, CRASHLOG_LEGACY_SERVER, 5, 11);
+        one_origin(0x7e, type, CRASHLOG_LEGACY_SERVER | CRASHLOG_LEGACY_GPU, 5, 8);
+        one_origin(0x82, type, CRASHLOG_LEGACY_GPU, 0, CRASHLOG_NO_DIE);
+    }
+    for (int n = 0; n < 100; n++)
+        for (uint8_t type = 0; type <= 15; type++)
+            for (uint32_t layout_flags = type <= 6 ? 0 : 1; layout_flags <= 3; layout_flags++) {
+                origins_agree(type, layout_flags);
+                origins_agree(type, layout_flags | CRASHLOG_SIZES_IN_BYTES);
+            }
+}
+
 /* Two sections, of which the second lies past the end of the input. */
 static void cpers(void)
 {
@@ -481,7 +567,7 @@ static void intel_rules(void)
 {
     const uint32_t words = CRASHLOG_INTEL_RULE_WORDS;
     uint32_t rules[CRASHLOG_INTEL_RULE_WORDS + 1], spans[CRASHLOG_SPAN_WORDS];
-    uint8_t bytes[32] = {0x01, 0xf0, 0x02, 0x03, [16] = 8}; /* type 0 of product 0x2f, 8 words */
+    uint8_t bytes[32] = {0x01, 0xf0, 0x02, 0x03, [16] = 8, [24] = 3}; /* type 0 of product 0x2f, 8 words, socket 3 */
     crashlog_header header = {0};
 
     memset(rules, 0xaa, sizeof rules);
@@ -496,7 +582,7 @@ static void intel_rules(void)
     EXPECT(header.layout == CRASHLOG_LAYOUT_LEGACY_SERVER && header.product_id == 0x2f);
     bytes[3] = 0x04;
     EXPECT(list(bytes, sizeof bytes, rules, words, 9, spans, CRASHLOG_SPAN_WORDS) == CRASHLOG_DONE);
-    EXPECT(spans[CRASHLOG_SPAN_FLAGS] == (CRASHLOG_LEGACY_SERVER | CRASHLOG_LEGACY_SERVER_BOX));
+    EXPECT(spans[CRASHLOG_SPAN_FLAGS] == (CRASHLOG_LEGACY_SERVER | CRASHLOG_LEGACY_SERVER_BOX) && comes_from(spans, 3, 4));
     memcpy(bytes, "\x01\xe0\x05\x03", 4); /* type 0 of product 0x5e */
     EXPECT(decode(bytes, sizeof bytes, rules, words, &header) == CRASHLOG_DONE);
     EXPECT(told_header(32, 32, CRASHLOG_LEGACY_GPU, 0) && header.layout == CRASHLOG_LAYOUT_LEGACY_GPU);
@@ -549,6 +635,8 @@ int main(void)
     listings();
     stops();
     wholes();
+    rooms();
+    origins();
     cpers();
     names();
     intel_rules();

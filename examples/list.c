@@ -15,16 +15,26 @@
 /* One byte over the limit, so that a file that is too long is told from one that just fits. */
 static uint8_t region[CRASHLOG_MOST_BYTES + 1];
 
+static void print_die(uint32_t die)
+{
+    if (die == CRASHLOG_NO_DIE)
+        printf("-");
+    else
+        printf("%" PRIu32, die);
+}
+
 static void print_row(const uint32_t *span)
 {
     uint8_t name[16];
     uint32_t record_type = span[CRASHLOG_SPAN_VERSION] >> 24 & 0x3f;
     uint32_t length = crashlog_name(record_type, name, sizeof name);
 
-    printf("%" PRIu32 " %" PRIu32 " %" PRIu32 " %" PRIu32 " %" PRIu32 " %08" PRIx32 " %.*s\n",
+    printf("%" PRIu32 " %" PRIu32 " %" PRIu32 " %" PRIu32 " %" PRIu32 " %08" PRIx32 " %" PRIu32 " ",
            span[CRASHLOG_SPAN_LEVEL], span[CRASHLOG_SPAN_OFFSET], span[CRASHLOG_SPAN_HELD],
            span[CRASHLOG_SPAN_DECLARED], span[CRASHLOG_SPAN_HEADER_SIZE], span[CRASHLOG_SPAN_VERSION],
-           (int)length, (const char *)name);
+           span[CRASHLOG_SPAN_SOCKET]);
+    print_die(span[CRASHLOG_SPAN_DIE]);
+    printf(" %.*s\n", (int)length, (const char *)name);
 }
 
 static const char *words_of(uint64_t stop)
@@ -60,7 +70,7 @@ int main(int argc, char **argv)
     crashlog_listing told;
     uint32_t answer = crashlog_list(region, length, NULL, 0, tries, spans, rows * CRASHLOG_SPAN_WORDS, &told);
 
-    printf("level offset held declared header version name\n");
+    printf("level offset held declared header version socket die name\n");
     for (uint64_t row = 0; row < told.rows; row++)
         print_row(spans + row * CRASHLOG_SPAN_WORDS);
     printf("rows %" PRIu64 " tries %" PRIu64 " whole %s answer %" PRIu32 "\n",

@@ -61,7 +61,7 @@ extern "C" {
 #endif
 
 /* Raised by one with every change after which a caller must be compiled again. */
-#define CRASHLOG_INTERFACE_VERSION 3
+#define CRASHLOG_INTERFACE_VERSION 4
 
 /* The answers. Each function's comment says which of them it gives. */
 #define CRASHLOG_DONE 0          /* none of the below */
@@ -108,8 +108,11 @@ extern "C" {
 /* The numbers of the rule table that crashlog_intel_rules writes: 40 rows. */
 #define CRASHLOG_INTEL_RULE_WORDS 120
 
-/* A row of the span table, number by number. The room is the table's length divided by CRASHLOG_SPAN_WORDS, rounded down. */
-#define CRASHLOG_SPAN_WORDS 8
+/*
+ * A row of the span table, number by number. The room is the table's length divided by CRASHLOG_SPAN_WORDS, rounded down. What
+ * a row says of its header is what crashlog_decode tells of the region from the row's offset on, under the same rules.
+ */
+#define CRASHLOG_SPAN_WORDS 10
 #define CRASHLOG_SPAN_LEVEL 0       /* 0 at the top, 1 in a Box, .. 4 */
 #define CRASHLOG_SPAN_PARENT 1      /* the row of the Box that it lies in; CRASHLOG_NO_PARENT at the top */
 #define CRASHLOG_SPAN_OFFSET 2      /* where it starts, in the whole region */
@@ -117,8 +120,11 @@ extern "C" {
 #define CRASHLOG_SPAN_DECLARED 4    /* how many it says it has */
 #define CRASHLOG_SPAN_HEADER_SIZE 5 /* of its header */
 #define CRASHLOG_SPAN_VERSION 6     /* its version word; the record type is bits 24 to 29 */
-#define CRASHLOG_SPAN_FLAGS 7       /* from the rule table */
+#define CRASHLOG_SPAN_SOCKET 7      /* that its header names; 0 where it names none */
+#define CRASHLOG_SPAN_DIE 8         /* that its header names; CRASHLOG_NO_DIE where it names none. It names both or neither */
+#define CRASHLOG_SPAN_FLAGS 9       /* from the rule table */
 #define CRASHLOG_NO_PARENT 4294967295u
+#define CRASHLOG_NO_DIE 4294967295u
 
 /* A row of the section table. The room is the table's length divided by CRASHLOG_SECTION_WORDS, rounded down. */
 #define CRASHLOG_SECTION_WORDS 3

@@ -1,5 +1,5 @@
 //! The listing of a region.
-use crate::inputs::{self, BOX_BYTES, CONTENTS, MIB, RECORD, STOPS};
+use crate::inputs::{self, BOX_BYTES, CONTENTS, HEADERS, MIB, RECORD, STOPS};
 use crate::library::{Library, Listing, PLAIN, PROVED};
 use crate::rust;
 use crate::sample::{C, Candidate, LIBRARY, Times, sample};
@@ -61,6 +61,16 @@ pub fn check_whole() {
             let ((answer, listing), _) = listed(&region, &BOX_BYTES, &mut spans);
             assert_eq!((answer, listing.whole == 1), (0, spoils <= boxes));
             region = inputs::box_of(&region);
+        }
+    }
+}
+
+/// Socket and die of headers of each kind, with each revision: those that are timed have one revision.
+pub fn check_origins(tables: &[Vec<u32>]) {
+    let mut spans = [0; 64 * span::WORDS];
+    for kind in 0..HEADERS.len() {
+        for bytes in inputs::headers(kind) {
+            tables.iter().for_each(|rules| _ = checked(&bytes, rules, &mut spans));
         }
     }
 }

@@ -26,6 +26,7 @@ fn main() {
     headers::check_endings();
     let rules = library::intel_rules();
     let tables = [Vec::new(), rules.clone(), inputs::padded(&rules, 64)];
+    listing::check_origins(&tables);
     if let Some(folder) = std::env::args().nth(1) {
         return counting::write_inputs(folder.as_ref(), &tables);
     }

@@ -57,13 +57,11 @@ static void take_fields(crashlog_header *header, const uint8_t *bytes)
         take_stamp(header, bytes);
         take_type6(header, bytes);
         break;
-    case CRASHLOG_LAYOUT_LEGACY_SERVER: {
-        uint8_t index = bytes[0] & 3;
+    case CRASHLOG_LAYOUT_LEGACY_SERVER:
         take_legacy(header, bytes);
-        header->die_id = bytes[0] & 0x80 ? index + 9 : index * 4;
+        header->die_id = server_die(bytes[0]);
         header->socket_id = bytes[24];
         break;
-    }
     case CRASHLOG_LAYOUT_LEGACY_GPU:
         take_legacy(header, bytes);
         break;

@@ -18,12 +18,6 @@ static bool version_fits(const crashlog_header *header)
            header->record_type < 64 && header->cldic <= 1 && header->consumed <= 1;
 }
 
-static uint8_t server_die(uint32_t revision)
-{
-    uint8_t index = revision & 3;
-    return revision & 0x80 ? index + 9 : index * 4;
-}
-
 static bool status_fits(const crashlog_header *header)
 {
     return header->completion_status >> 31 == 0 && header->collection_complete <= 1;

@@ -13,6 +13,8 @@
 struct frame {
     uint32_t size;     /* of the header */
     uint32_t declared; /* of the record */
+    uint32_t socket;   /* 0 where the header has none */
+    uint32_t die;      /* CRASHLOG_NO_DIE where the header has none */
 };
 
 static inline bool rules_valid(const uint32_t *rules, size_t rules_len)
@@ -44,6 +46,12 @@ static inline bool is_box(uint32_t word, uint32_t flags)
     return (word >> 24 & 63) == BOX || flags & CRASHLOG_LEGACY_SERVER_BOX;
 }
 
+static inline uint8_t server_die(uint32_t revision)
+{
+    uint8_t index = revision & 3;
+    return revision & 0x80 ? index + 9 : index * 4;
+}
+
 /* The version word, or 0 where the records have ended. */
 static inline uint32_t word_of(const uint8_t *bytes, size_t len)
 {
@@ -66,11 +74,17 @@ static inline uint32_t judge(const uint8_t *bytes, size_t len, uint32_t word, ui
 {
     static const uint8_t sizes[16] = {8, 8, 24, 28, 32, 32, 28};
     unsigned shift = flags & CRASHLOG_SIZES_IN_BYTES ? 0 : 2;
+    frame->socket = 0;
+    frame->die = CRASHLOG_NO_DIE;
     if (flags & LEGACY) {
         if (len < 32)
             return CRASHLOG_BAD_HEADER;
         frame->size = 32;
         frame->declared = (uint32_t)u16_at(bytes + 16) << shift;
+        if (flags & CRASHLOG_LEGACY_SERVER) {
+            frame->socket = bytes[24];
+            frame->die = server_die(word & 255);
+        }
         return CRASHLOG_DONE;
     }
     if (len < 8)
@@ -78,8 +92,11 @@ static inline uint32_t judge(const uint8_t *bytes, size_t len, uint32_t word, ui
     uint32_t size = sizes[header_type(word)];
     if (size == 0)
         return CRASHLOG_BAD_TYPE;
-    if (header_type(word) == 6 && len >= 28)
+    if (header_type(word) == 6 && len >= 28) {
+        frame->die = bytes[24];
+        frame->socket = bytes[25];
         size += 4 * (u16_at(bytes + 26) & 127);
+    }
     if (len < size)
         return CRASHLOG_BAD_HEADER;
     frame->size = size;

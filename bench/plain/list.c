@@ -28,6 +28,8 @@ static void put_span(uint32_t *span, uint32_t level, uint32_t parent, uint32_t o
     span[CRASHLOG_SPAN_DECLARED] = frame.declared;
     span[CRASHLOG_SPAN_HEADER_SIZE] = frame.size;
     span[CRASHLOG_SPAN_VERSION] = word;
+    span[CRASHLOG_SPAN_SOCKET] = frame.socket;
+    span[CRASHLOG_SPAN_DIE] = frame.die;
     span[CRASHLOG_SPAN_FLAGS] = flags;
 }
 

@@ -1,5 +1,6 @@
 //! A case: one call, and what must come of it. This is also what the replay's data holds (`vectors`).
 
+use crate::span::{self, NO_DIE};
 use std::fmt::Write;
 use std::rc::Rc;
 
@@ -74,6 +75,15 @@ impl Case {
     /// Whether the listing is whole, where the answer is 0.
     pub fn whole(&self) -> Option<bool> {
         (self.call == Call::Listings && self.answer() == 0).then_some(self.told[4] == 1)
+    }
+
+    /// How many rows a listing writes without a die, and with one.
+    pub fn rows_by_die(&self) -> Option<[u64; 2]> {
+        (self.call == Call::Listings).then(|| {
+            let rows = span::rows_in(&self.written);
+            let with_die = rows.iter().filter(|row| row.die != NO_DIE).count();
+            [rows.len() - with_die, with_die].map(|count| count as u64)
+        })
     }
 
     /// The case as text, with its whole input.

@@ -2,7 +2,7 @@
 // which they call `form`.
 
 use crate::header::{Header as Fields, LEGACY_GPU, LEGACY_SERVER};
-use crate::span::Span;
+use crate::span::{NO_DIE, Span};
 use form::errata::Errata;
 use form::header::{Header, HeaderType};
 
@@ -24,6 +24,8 @@ pub fn span(header: &Header, level: u32, parent: u32, offset: usize, held: usize
         declared: header.record_size() as u32,
         header_size: header.header_size() as u32,
         version: header.version.as_u32(),
+        socket: header.socket_id().into(),
+        die: header.die_id().map_or(NO_DIE, u32::from),
         flags: flags_of(&header.version.errata()),
     }
 }

@@ -23,7 +23,7 @@ mod x86;
 
 use dump::Dump;
 use kinds::published::Published;
-use kinds::{containers, encodes, headers, intel, listings, names};
+use kinds::{containers, encodes, headers, intel, listings, names, origins};
 use library::Library;
 use random::Random;
 use std::path::Path;
@@ -59,11 +59,12 @@ fn stop(why: &str) -> ! {
 /// The fixed cases, then `count` rounds of random ones; by a seed that is told.
 fn run(mut tally: Tally, dump: &Dump, seed: u64, count: u64) -> ExitCode {
     let mut published = Published::new(&mut tally.library);
-    let fixed: [(&str, fn(&mut Tally)); 6] = [
+    let fixed: [(&str, fn(&mut Tally)); 7] = [
         ("names", names::fixed),
         ("headers", headers::fixed),
         ("encodes", encodes::fixed),
         ("listings", listings::fixed),
+        ("sockets and dies", origins::fixed),
         ("CPERs", containers::fixed),
         ("Intel's rules", intel::fixed),
     ];

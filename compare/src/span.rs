@@ -1,10 +1,13 @@
 //! A row of the span table, as crashlog.h has it.
 
 /// The numbers of a row.
-pub const WORDS: usize = 8;
+pub const WORDS: usize = 10;
 
 /// The parent of a row at the top.
 pub const NO_PARENT: u32 = u32::MAX;
+
+/// The die of a row whose header has none.
+pub const NO_DIE: u32 = u32::MAX;
 
 #[derive(Clone, Copy, Debug, PartialEq, Eq)]
 pub struct Span {
@@ -15,13 +18,28 @@ pub struct Span {
     pub declared: u32,
     pub header_size: u32,
     pub version: u32,
+    pub socket: u32,
+    pub die: u32,
     pub flags: u32,
 }
 
 impl Span {
     /// The row's numbers in order.
     pub fn numbers(&self) -> [u32; WORDS] {
-        let Span { level, parent, offset, held, declared, header_size, version, flags } = *self;
-        [level, parent, offset, held, declared, header_size, version, flags]
+        let Span { level, parent, offset, held, declared, header_size, version, socket, die, flags } = *self;
+        [level, parent, offset, held, declared, header_size, version, socket, die, flags]
     }
+
+    /// The row of those numbers.
+    pub fn of(numbers: [u32; WORDS]) -> Span {
+        let [level, parent, offset, held, declared, header_size, version, socket, die, flags] = numbers;
+        Span { level, parent, offset, held, declared, header_size, version, socket, die, flags }
+    }
+}
+
+/// The rows that the bytes of a table hold.
+pub fn rows_in(table: &[u8]) -> Vec<Span> {
+    let number = |bytes: &[u8]| u32::from_le_bytes(bytes.try_into().unwrap());
+    let row = |bytes: &[u8]| Span::of(std::array::from_fn(|at| number(&bytes[4 * at..4 * at + 4])));
+    table.chunks_exact(4 * WORDS).map(row).collect()
 }

@@ -16,6 +16,8 @@ struct Count {
     stops: [u64; stops::NAMES.len()],
     /// Listings with answer 0 that must not be whole, and those that must.
     whole: [u64; 2],
+    /// Rows that must be written without a die, and with one.
+    dies: [u64; 2],
 }
 
 pub struct Tally {
@@ -55,6 +57,10 @@ impl Tally {
             if let Some(whole) = case.whole() {
                 self.kinds.entry(kind).or_default().whole[whole as usize] += 1;
             }
+            if let Some([without, with]) = case.rows_by_die() {
+                let dies = &mut self.kinds.entry(kind).or_default().dies;
+                *dies = [dies[0] + without, dies[1] + with];
+            }
         }
     }
 
@@ -86,6 +92,7 @@ impl Tally {
         println!("{:<24} {:>10} {:>10}", "all", self.cases(), self.differing());
         self.print_stops();
         self.print_whole();
+        self.print_dies();
     }
 
     /// How often each reason to stop or ending was to be told, of the kinds that tell one.
@@ -101,6 +108,14 @@ impl Tally {
         println!("{:<24} {:>10} {:>10}", "listings with answer 0", "whole", "not whole");
         for (kind, count) in self.kinds.iter().filter(|(_, count)| count.whole != [0; 2]) {
             println!("{kind:<24} {:>10} {:>10}", count.whole[1], count.whole[0]);
+        }
+    }
+
+    /// How many rows of listings were to have a die, of the kinds that have rows.
+    fn print_dies(&self) {
+        println!("{:<24} {:>10} {:>10}", "rows of listings", "with die", "without");
+        for (kind, count) in self.kinds.iter().filter(|(_, count)| count.dies != [0; 2]) {
+            println!("{kind:<24} {:>10} {:>10}", count.dies[1], count.dies[0]);
         }
     }
 }

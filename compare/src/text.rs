@@ -1,6 +1,6 @@
-//! The dump's text, by document 01.
+//! The dump's text, by document 01, with the columns of document 02.
 
-use crate::span::Span;
+use crate::span::{NO_DIE, Span};
 use std::fmt::Write;
 
 pub const ROWS: usize = 512;
@@ -9,10 +9,11 @@ pub const MOST_BYTES: usize = 65_535;
 
 /// Heading, rows and last line, each ending in a newline.
 pub fn format(rows: &[Span], tries: u64, whole: bool, answer: u64, name: impl Fn(u8) -> String) -> String {
-    let mut text = "level offset held declared header version name\n".to_string();
-    for Span { level, offset, held, declared, header_size, version, .. } in rows {
+    let mut text = "level offset held declared header version socket die name\n".to_string();
+    for Span { level, offset, held, declared, header_size, version, socket, die, .. } in rows {
+        let die = if *die == NO_DIE { "-".to_string() } else { die.to_string() };
         let name = name((version >> 24 & 0x3f) as u8);
-        writeln!(text, "{level} {offset} {held} {declared} {header_size} {version:08x} {name}").unwrap();
+        writeln!(text, "{level} {offset} {held} {declared} {header_size} {version:08x} {socket} {die} {name}").unwrap();
     }
     let whole = if whole { "yes" } else { "no" };
     writeln!(text, "rows {} tries {tries} whole {whole} answer {answer}", rows.len()).unwrap();

@@ -92,6 +92,26 @@ fn header(random: &mut Random, version: u32, flags: u32) -> Vec<u8> {
     bytes
 }
 
+/// A record of 36 bytes with a header without status words. `pair` stands at 24 and 25, where type 6 has die and socket and a
+/// legacy server its socket; the bytes beside it are others. What stands after a shorter header is no record.
+pub fn placed_record(version: u32, flags: u32, pair: [u8; 2]) -> Vec<u8> {
+    let mut bytes = version.to_le_bytes().to_vec();
+    bytes.extend([0x51, 0x52, 0x53, 0x54, 0, 0, 0, 0]);
+    bytes.extend(0xa0..0xac);
+    bytes.extend(pair);
+    bytes.extend([0x80, 0xc3, 0, 0, 0, 0, 0, 0, 0, 0]);
+    put_sizes(&mut bytes, flags, 36);
+    bytes
+}
+
+/// The header of such a record, with other bytes after it.
+pub fn placed_header(version: u32, flags: u32, pair: [u8; 2], body: &[u8]) -> Vec<u8> {
+    let size = header_size(flags, version >> 8 & 15);
+    let mut bytes = [&placed_record(version, flags, pair)[..size], body].concat();
+    put_sizes(&mut bytes, flags, size + body.len());
+    bytes
+}
+
 /// Boxes with type 1 headers, each the payload of the last, of 8 bytes less.
 pub fn nest(boxes: usize) -> Vec<u8> {
     (1..=boxes).rev().flat_map(|left| small_record(BOX, 8 * left)).collect()

@@ -6,4 +6,5 @@ pub mod headers;
 pub mod intel;
 pub mod listings;
 pub mod names;
+pub mod origins;
 pub mod published;

@@ -2,6 +2,7 @@
 //! Rust or from document 01, never from the library; the list is then tried on the library too.
 
 mod boundaries;
+mod origins;
 mod sample;
 mod stops;
 mod whole;
@@ -32,6 +33,7 @@ pub fn list() -> Vec<Case> {
     cases.extend(boundaries::list());
     cases.extend(stops::list());
     cases.extend(whole::list());
+    cases.extend(origins::list());
     cases.extend(sample::list());
     cases
 }

@@ -1,11 +1,11 @@
-//! Document 01's worked examples, written out by hand from the paper, and by document 02 why each region stops and whether the
-//! listing is whole. What the Rust says must be the same.
+//! Document 01's worked examples, written out by hand from the paper, and by document 02 why each region stops, whether the
+//! listing is whole, and socket and die. What the Rust says must be the same.
 
 use crate::case::{Call, Case, Source};
 use crate::expected;
 use crate::header::{Header, LEGACY_SERVER};
 use crate::kinds::containers;
-use crate::span::{self, NO_PARENT, Span};
+use crate::span::{self, NO_DIE, NO_PARENT, Span};
 use std::rc::Rc;
 
 /// P12's input.
@@ -22,9 +22,9 @@ pub fn list() -> Vec<Case> {
     [single_regions(), boxes(), dies_and_counts(), dump_input(), texts(), long_regions(), containers()].concat()
 }
 
-/// A row of a record with a header of 8 bytes and no flags.
+/// A row of a record with a header of 8 bytes, which has no socket and no die, and no flags.
 fn row(level: u32, parent: u32, offset: u32, held: u32, declared: u32, version: u32) -> Span {
-    Span { level, parent, offset, held, declared, header_size: 8, version, flags: 0 }
+    Span { level, parent, offset, held, declared, header_size: 8, version, socket: 0, die: NO_DIE, flags: 0 }
 }
 
 /// A listing with room for so many rows: it tells an answer, tries, a bad type, whole and why it stopped, and writes rows.
@@ -129,11 +129,11 @@ fn dump_input() -> Vec<Case> {
 
 /// P12's text, and those of no bytes, of 65,535 and of 65,536 bytes.
 fn texts() -> Vec<Case> {
-    let heading = "level offset held declared header version name\n";
-    let p12 = "0 0 20 20 8 3d123101 BOX\n1 8 8 8 8 03123101 Punit\n0 20 8 16 8 3e123101 MCA\n\
+    let heading = "level offset held declared header version socket die name\n";
+    let p12 = "0 0 20 20 8 3d123101 0 - BOX\n1 8 8 8 8 03123101 0 - Punit\n0 20 8 16 8 3e123101 0 - MCA\n\
                rows 3 tries 4 whole no answer 0\n";
     let long = |length| crate::inputs::regions::repeated(&[0x01, 0x31, 0x12, 0x03, 0xff, 0xff, 0, 0], length);
-    let longest = "0 0 65535 262140 8 03123101 Punit\nrows 1 tries 1 whole no answer 0\n";
+    let longest = "0 0 65535 262140 8 03123101 0 - Punit\nrows 1 tries 1 whole no answer 0\n";
     let text = |region: &[u8], lines: &str| {
         let region = Rc::from(region);
         let written = format!("{heading}{lines}").into_bytes();

@@ -20,7 +20,7 @@ module _ (rules bs : List ℕ) where
   head-held (Head.Ended ending) e done = absurd (omega arith)
   head-held Head.BadHeader e done = absurd (omega arith)
   head-held (Head.BadType t) e done = absurd (omega arith)
-  head-held (Record word flags declared size) e done = record-told rules bs e .found
+  head-held (Record s) e done = let told = record-told rules bs e in rw (told .is) (told .found)
 
   pub judged-held : Held bs (judgedOf rules bs)
   unfolding judgedOf

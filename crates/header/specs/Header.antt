@@ -56,8 +56,8 @@ unfoldable pub judgedFrom : Head → Judged
 judgedFrom (Head.Ended e) = refusal (Ended e)
 judgedFrom Head.BadHeader = refusal BadHeader
 judgedFrom (Head.BadType t) = refusal (BadType t)
-judgedFrom (Record word flags declared size) =
-    record { answer = Done; word = word; flags = flags; declared = declared; «header_size» = size }
+judgedFrom (Record s) =
+    record { answer = Done; word = s .word; flags = s .flags; declared = s .declared; «header_size» = s .size }
 
 -- bad rules come first
 unfoldable pub judgedOf : List ℕ → List ℕ → Judged

@@ -1,13 +1,14 @@
 -- The header layouts (document 01, 'Record header'), each as one table of fields that takes up every byte of the header,
 -- and the fields of a header type from the table's numbers.
 use Prim.Native.Nat.{ℕ, _+_, _*_, _-_, _/_, _%_}
-use mathlib.Core.Bool.{Bool, cond}
+use mathlib.Core.Bool.{Bool}
 use mathlib.Core.List.{List, [], _∷_, _++_}
 use lib.Dec.{eqb}
 use lib.ListN.{length, getD, drop, replicate}
 use Rattle.layout.specs.Fields.{Field, field}
 use Rattle.layout.specs.Runs.{cells}
 use Rattle.header_judge.specs.Version.{bit, revision}
+use Rattle.header_judge.specs.Head.{serverDie}
 use Rattle.header_judge.specs.declared.Layout.{Layout}
 use Rattle.header_judge.specs.declared.Layout.the-variants.{Zero, One, Two, Three, Four, Five, Six, LegacyServer, LegacyGpu, Bad}
 use Rattle.header.specs.declared.Stamp.{Stamp}
@@ -65,10 +66,6 @@ completeHalf half = eqb (half / 32768 % 2) 1
 
 abbrev pub countHalf : ℕ → Bool → ℕ
 countHalf n c = n + bit c * 32768
-
--- the die of a legacy server header, by its revision's lowest two bits and bit 7
-abbrev pub serverDie : ℕ → ℕ
-serverDie rev = cond (eqb (rev / 128 % 2) 1) (rev % 4 + 9) (rev % 4 * 4)
 
 -- ---- a header from the numbers of its table
 

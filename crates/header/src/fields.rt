@@ -7,12 +7,13 @@ ghost use Rattle.layout.specs.Fields.{readAll};
 ghost use Rattle.layout.specs.Runs.{cells};
 ghost use Rattle.header_judge.specs.Head.{sizeFor, countOf};
 ghost use Rattle.header_judge.specs.declared.Layout.the-variants.{Two, Three, Four, Five, Six, LegacyServer, LegacyGpu};
-ghost use Rattle.header.specs.Layouts.{stamp, statusOf, serverDie, typeFrom, statusesFrom, padded};
+ghost use Rattle.header.specs.Layouts.{stamp, statusOf, typeFrom, statusesFrom, padded};
 ghost use Rattle.header.specs.Header.{numbersOf};
 use crate::HeaderType;
 use crate::Stamp;
 use crate::Status;
 use header_judge::Layout;
+use header_judge::origin::server_die;
 
 fn stamp_of(s: &[u8]) -> Stamp
     requires { ⌜ 24 ≤ length (now s) ⌝ }
@@ -99,17 +100,6 @@ fn type6(s: &[u8]) -> HeaderType
         completion_status_size: half % 128,
         collection_complete: half / 32768 % 2 == 1,
     }
-}
-
-// The die that a legacy server's revision encodes.
-pub fn server_die(revision: u32) -> u8
-    ensures { λ r. ⌜ r ≡ serverDie revision ⌝ }
-{
-    let index = (revision % 4) as u8;
-    if revision / 128 % 2 == 1 {
-        return index + 9;
-    }
-    index * 4
 }
 
 fn type0_legacy_server(s: &[u8]) -> HeaderType

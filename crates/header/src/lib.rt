@@ -166,17 +166,12 @@ pub fn judge(s: &[u8], rules: &[u32]) -> Judged
         Head::Ended(ending) => refused(Answer::Ended(ending)),
         Head::BadHeader => refused(Answer::BadHeader),
         Head::BadType(header_type) => refused(Answer::BadType(header_type)),
-        Head::Record {
-            word,
-            flags,
-            declared,
-            size,
-        } => Judged {
+        Head::Record(summary) => Judged {
             answer: Answer::Done,
-            word: word,
-            flags: flags,
-            declared: declared,
-            header_size: size,
+            word: summary.word,
+            flags: summary.flags,
+            declared: summary.declared,
+            header_size: summary.size,
         },
     }
 }

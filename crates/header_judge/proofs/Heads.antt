@@ -9,7 +9,8 @@ use lib.Dec.{eqb}
 use borrow.Author.Tests.{eq-eqb, ne-eqb, eqb-false}
 use Rattle.rules.specs.Rules.{flagsOf}
 use Rattle.header_judge.specs.Version.{noWord, wordOf, endingOf, headerType}
-use Rattle.header_judge.specs.Head.{declaredOf, noSize, lacking, sizeOf, headWith, headOf}
+use Rattle.header_judge.specs.Head.{noSize, lacking, sizeOf, summaryOf, headWith, headOf}
+use Rattle.header_judge.specs.declared.Summary.{Summary}
 use Rattle.header_judge.specs.declared.Head.the-variants.{Ended, BadHeader, BadType, Record}
 
 module _ (bs : List ℕ) (word flags : ℕ) where
@@ -26,7 +27,7 @@ module _ (bs : List ℕ) (word flags : ℕ) where
   head-bad-header f e = rw (ne-eqb word noWord f, e)
 
   pub head-record : (word ≡ noWord → ⊥) → lacking < sizeOf bs word flags
-      → headWith bs word flags ≡ Record word flags (declaredOf bs flags) (sizeOf bs word flags)
+      → headWith bs word flags ≡ Record (summaryOf bs word flags)
   unfolding headWith
   head-record f h =
       let no-type : sizeOf bs word flags ≡ noSize → ⊥ = λ e. omega arith in
@@ -35,18 +36,14 @@ module _ (bs : List ℕ) (word flags : ℕ) where
 
 -- ---- a record that was found
 
-pub record Told (rules bs : List ℕ) (word flags declared size : ℕ) : Type 0 where
-  pub word-is : word ≡ wordOf bs
-  pub there : word ≡ noWord → ⊥
-  pub flags-are : flags ≡ flagsOf rules word
-  pub declared-is : declared ≡ declaredOf bs flags
-  pub size-is : size ≡ sizeOf bs word flags
-  pub found : lacking < sizeOf bs word flags
+pub record Told (rules bs : List ℕ) (s : Summary) : Type 0 where
+  pub there : wordOf bs ≡ noWord → ⊥
+  pub is : s ≡ summaryOf bs (wordOf bs) (flagsOf rules (wordOf bs))
+  pub found : lacking < sizeOf bs (wordOf bs) (flagsOf rules (wordOf bs))
 
-pub record-told : (rules bs : List ℕ) {word flags declared size : ℕ} → headOf rules bs ≡ Record word flags declared size → Told rules bs word flags declared size
+pub record-told : (rules bs : List ℕ) {s : Summary} → headOf rules bs ≡ Record s → Told rules bs s
 unfolding headOf headWith
-record-told rules bs {word} {flags} {declared} {size} h =
-    by (eqb w noWord) refl (eqb z noSize) refl (eqb z lacking) refl h
+record-told rules bs {s} h = by (eqb w noWord) refl (eqb z noSize) refl (eqb z lacking) refl h
   where
     w : ℕ
     w = wordOf bs
@@ -58,26 +55,16 @@ record-told rules bs {word} {flags} {declared} {size} h =
     z = sizeOf bs w f
 
     by : (i : Bool) → eqb w noWord ≡ i → (j : Bool) → eqb z noSize ≡ j → (k : Bool) → eqb z lacking ≡ k
-        → cond i (Ended (endingOf bs)) (cond j (BadType (headerType w)) (cond k BadHeader (Record w f (declaredOf bs f) z))) ≡ Record word flags declared size
-        → Told rules bs word flags declared size
+        → cond i (Ended (endingOf bs)) (cond j (BadType (headerType w)) (cond k BadHeader (Record (summaryOf bs w f)))) ≡ Record s
+        → Told rules bs s
     by true i j p k q h = absurd (let o : _≡_ {A = ℕ} 0 1 = cc in omega arith)
     by false i true p k q h = absurd (let o : _≡_ {A = ℕ} 0 1 = cc in omega arith)
     by false i false p true q h = absurd (let o : _≡_ {A = ℕ} 0 1 = cc in omega arith)
     by false i false p false q h =
-        let word-is : word ≡ w = cc in
-        let flags-are : flags ≡ f = cc in
-        let declared-is : declared ≡ declaredOf bs f = cc in
-        let size-is : size ≡ z = cc in
+        let is : s ≡ summaryOf bs w f = cc in
         let some : z ≡ noSize → ⊥ = eqb-false z noSize p in
         let more : z ≡ lacking → ⊥ = eqb-false z lacking q in
-        record {
-          word-is = word-is;
-          there = λ e. eqb-false w noWord i (sym word-is ∙ e);
-          flags-are = rw word-is flags-are;
-          declared-is = rw flags-are declared-is;
-          size-is = rw (word-is, flags-are) size-is;
-          found = rw (word-is, flags-are) (omega arith);
-        }
+        record { there = eqb-false w noWord i; is = is; found = omega arith }
 
 -- the flags of a word that is none do not matter
 pub head-known : (rules bs : List ℕ) (word flags : ℕ) → word ≡ wordOf bs → ((word ≡ noWord → ⊥) → flags ≡ flagsOf rules word)

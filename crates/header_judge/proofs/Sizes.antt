@@ -136,6 +136,12 @@ module _ (bs : List ℕ) (word flags : ℕ) where
       by false e true f h = absurd (omega arith)
       by false e false f h = (ltb-false (length bs) (sizesEnd flags) e, refl, ltb-false (length bs) size f)
 
+-- the bytes of its layout are there
+pub size-there : (bs : List ℕ) (word flags : ℕ) {l : Layout} → l ≡ layoutOf word flags → lacking < sizeOf bs word flags → sizeFor l (countOf bs) ≤ length bs
+size-there bs word flags e h =
+    let found = size-found bs word flags h in
+    rw (e, ← found .1) (found .2)
+
 -- ---- the bounds of a size
 
 -- no size, or one from 8 to 536

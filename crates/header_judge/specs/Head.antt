@@ -1,5 +1,5 @@
 -- What the header at the start of some bytes is, as far as a span row needs it (document 01, 'Record header').
-use Prim.Native.Nat.{ℕ, _+_, _*_, _%_}
+use Prim.Native.Nat.{ℕ, _+_, _*_, _/_, _%_}
 use mathlib.Core.List.{List, [], _∷_}
 use mathlib.Core.Bool.{Bool, cond, _||_}
 use lib.Dec.{eqb, ltb}
@@ -7,10 +7,12 @@ use lib.ListN.{length, getD}
 use Rattle.answers.specs.Numbers.{done, badHeader, badType, ended}
 use Rattle.le.specs.Le.{le}
 use Rattle.rules.specs.Rules.{has, legacyServer, legacyGpu, legacyServerBox, sizesInBytes, flagsOf}
-use Rattle.header_judge.specs.Version.{noWord, wordOf, endingOf, headerType, recordType}
+use Rattle.header_judge.specs.Version.{noWord, wordOf, endingOf, revision, headerType, recordType}
 use Rattle.header_judge.specs.declared.Layout.{Layout}
 use Rattle.header_judge.specs.declared.Layout.the-variants.{Zero, One, Two, Three, Four, Five, Six, LegacyServer, LegacyGpu, Bad}
 use Rattle.header_judge.specs.declared.Shape.{Shape}
+use Rattle.header_judge.specs.declared.origin.Origin.{Origin}
+use Rattle.header_judge.specs.declared.Summary.{Summary}
 use Rattle.header_judge.specs.declared.Head.{Head}
 use Rattle.header_judge.specs.declared.Head.the-variants.{Ended, BadHeader, BadType, Record}
 
@@ -91,11 +93,54 @@ unfoldable pub sizeOf : List ℕ → ℕ → ℕ → ℕ
 sizeOf bs word flags =
     cond (ltb (length bs) (sizesEnd flags)) lacking (enough bs (sizeFor (layoutOf word flags) (countOf bs)))
 
+-- ---- socket and die
+
+-- what stands for a die where there is none
+abbrev pub noDie : ℕ
+noDie = 4294967295
+
+-- the die of a legacy server header, by its revision's lowest two bits and bit 7
+abbrev pub serverDie : ℕ → ℕ
+serverDie rev = cond (eqb (rev / 128 % 2) 1) (rev % 4 + 9) (rev % 4 * 4)
+
+-- a header that names neither
+abbrev pub unnamed : Origin
+unnamed = record { socket = 0; die = noDie }
+
+-- what a header of a layout names: type 6 has both in its bytes, a legacy server header the socket in its bytes and the die by its revision
+abbrev pub originIn : Layout → List ℕ → ℕ → Origin
+originIn Zero bs word = unnamed
+originIn One bs word = unnamed
+originIn Two bs word = unnamed
+originIn Three bs word = unnamed
+originIn Four bs word = unnamed
+originIn Five bs word = unnamed
+originIn Six bs word = record { socket = le 1 bs 25; die = le 1 bs 24 }
+originIn LegacyServer bs word = record { socket = le 1 bs 24; die = serverDie (revision word) }
+originIn LegacyGpu bs word = unnamed
+originIn Bad bs word = unnamed
+
+-- the socket and the die that a header names
+unfoldable pub originOf : List ℕ → ℕ → ℕ → Origin
+originOf bs word flags = originIn (layoutOf word flags) bs word
+
 -- ---- one try
 
 -- a Box: record type 0x3D, or flag 4
 abbrev pub isBox : ℕ → ℕ → Bool
 isBox word flags = eqb (recordType word) 0x3d || has flags legacyServerBox
+
+-- what a header says of its record, where its word and flags are known
+abbrev pub summaryOf : List ℕ → ℕ → ℕ → Summary
+summaryOf bs word flags =
+    record {
+      word = word;
+      flags = flags;
+      declared = declaredOf bs flags;
+      size = sizeOf bs word flags;
+      socket = originOf bs word flags .socket;
+      die = originOf bs word flags .die;
+    }
 
 -- the header, where its word and flags are known
 unfoldable pub headWith : List ℕ → ℕ → ℕ → Head
@@ -103,7 +148,7 @@ headWith bs word flags =
     cond (eqb word noWord) (Ended (endingOf bs))
     (cond (eqb (sizeOf bs word flags) noSize) (BadType (headerType word))
     (cond (eqb (sizeOf bs word flags) lacking) BadHeader
-    (Record word flags (declaredOf bs flags) (sizeOf bs word flags))))
+    (Record (summaryOf bs word flags))))
 
 -- the header at the start of some bytes, under a rule table
 unfoldable pub headOf : List ℕ → List ℕ → Head
@@ -114,4 +159,4 @@ abbrev pub numberOf : Head → ℕ
 numberOf (Ended ending) = ended
 numberOf BadHeader = badHeader
 numberOf (BadType t) = badType
-numberOf (Record word flags declared size) = done
+numberOf (Record s) = done

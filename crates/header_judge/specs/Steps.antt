@@ -21,4 +21,4 @@ abbrev pub HeadBounds : Head → Type 0
 HeadBounds (Ended ending) = Unit {0}
 HeadBounds BadHeader = Unit {0}
 HeadBounds (BadType t) = (7 ≤ t) × (t < 16)
-HeadBounds (Record word flags declared size) = (declared ≤ 524280) × (8 ≤ size) × (size ≤ 536)
+HeadBounds (Record s) = (s .declared ≤ 524280) × (8 ≤ s .size) × (s .size ≤ 536)

@@ -4,10 +4,12 @@ ghost use mathlib.Core.Path.{_≡_};
 ghost use Prim.Native.Nat.{_+_, _*_, _≤_, _<_};
 ghost use lib.ListN.{length};
 ghost use Rattle.header_judge.specs.Steps.{Measured, HeadBounds};
-ghost use Rattle.header_judge.specs.Head.{legacy, recordSize, extendedSize, sizesEnd, unit, declaredOf, countOf, shapeOf, layoutOf, enough, sizeOf, isBox, headOf};
+ghost use Rattle.header_judge.specs.Head.{legacy, recordSize, extendedSize, sizesEnd, unit, declaredOf, countOf, shapeOf, layoutOf, enough, lacking, sizeOf, isBox, summaryOf, headOf};
 
+pub mod origin;
 pub mod version;
 
+use origin::origin_of;
 use version::Ending;
 use version::NO_WORD;
 use version::ending_of;
@@ -38,17 +40,23 @@ pub struct RecordSize {
     pub extended_record_size: u16,
 }
 
+// What a header says of its record, as far as a span row needs it: the version word, its flags, the bytes declared, the header's size,
+// and the socket and the die that it names.
+pub struct Summary {
+    pub word: u32,
+    pub flags: u32,
+    pub declared: usize,
+    pub size: usize,
+    pub socket: u32,
+    pub die: u32,
+}
+
 // What one try finds.
 pub enum Head {
     Ended(Ending),
     BadHeader,
     BadType(u32),
-    Record {
-        word: u32,
-        flags: u32,
-        declared: usize,
-        size: usize,
-    },
+    Record(Summary),
 }
 
 // What `size_of` gives in the place of a size: the type is bad.
@@ -215,6 +223,22 @@ pub fn size_of(s: &[u8], word: u32, flags: u32) -> usize
     sized(s, shape.size)
 }
 
+// What a header says of its record, where its sizes are known.
+pub fn summary_of(s: &[u8], word: u32, flags: u32, declared: usize, size: usize) -> Summary
+    requires { ⌜ (declared ≡ declaredOf (now s) flags) × (size ≡ sizeOf (now s) word flags) × (lacking < size) ⌝ }
+    ensures { λ r. ⌜ r ≡ summaryOf (now (s .entry)) word flags ⌝ }
+{
+    let origin = origin_of(s, word, flags);
+    Summary {
+        word: word,
+        flags: flags,
+        declared: declared,
+        size: size,
+        socket: origin.socket,
+        die: origin.die,
+    }
+}
+
 // What one try finds.
 pub fn judge(s: &[u8], rules: &[u32]) -> Head
     ensures { λ r. ⌜ r ≡ headOf (now (rules .entry)) (now (s .entry)) ⌝ }
@@ -232,10 +256,6 @@ pub fn judge(s: &[u8], rules: &[u32]) -> Head
     if size == LACKING {
         return Head::BadHeader;
     }
-    Head::Record {
-        word: word,
-        flags: flags,
-        declared: declared_of(s, flags),
-        size: size,
-    }
+    let declared = declared_of(s, flags);
+    Head::Record(summary_of(s, word, flags, declared, size))
 }

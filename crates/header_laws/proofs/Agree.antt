@@ -6,20 +6,24 @@ use mathlib.Core.List.{List}
 use mathlib.Core.Logic.{_↔_}
 use Prim.Native.Nat.{ℕ, _≤_, _<_}
 use lib.ListN.{length}
+use Rattle.le.specs.Le.{le}
 use Rattle.rules.specs.Rules.{validOf, flagsOf}
 use Rattle.layout.specs.Fields.{Field, readAll}
 use Rattle.header_judge.specs.Version.{wordOf}
-use Rattle.header_judge.specs.Head.{lacking, declaredOf, layoutOf, countOf, sizeFor, headOf, numberOf as headNumber}
+use Rattle.header_judge.specs.Head.{lacking, declaredOf, layoutOf, countOf, sizeFor, originIn, originOf, summaryOf, headOf, numberOf as headNumber}
 use Rattle.header_judge.specs.declared.Layout.{Layout}
+use Rattle.header_judge.specs.declared.Layout.the-variants.{Zero, One, Two, Three, Four, Five, Six, LegacyServer, LegacyGpu, Bad}
+use Rattle.header_judge.specs.declared.origin.Origin.{Origin}
+use Rattle.header_judge.specs.declared.Summary.{Summary}
 use Rattle.header_judge.specs.declared.Head.{Head}
 use Rattle.header_judge.specs.declared.Head.the-variants.{Record}
 use Rattle.header.specs.Layouts.{tableOf, typeFrom}
-use Rattle.header.specs.Header.{numberOf, refusal, judgedFrom, judgedOf, numbersOf, decodedOf}
+use Rattle.header.specs.Header.{numberOf, refusal, judgedFrom, judgedOf, numbersOf, headerOf, decodedOf}
 use Rattle.header.specs.Access.{countIn, headerSize, recordBytes}
 use Rattle.header.specs.declared.Answer.{Answer}
 use Rattle.header.specs.declared.Decoded.{Decoded}
 use Rattle.header.specs.declared.Answer.the-variants.{Done, Ended, BadRules, BadHeader, BadType}
-use Rattle.header_laws.specs.Agree.{answerFor, decodedRecord}
+use Rattle.header_laws.specs.Agree.{answerFor, decodedRecord, originNamed, decodedSummary}
 use Rattle.header_laws.proofs.Layouts.{layout-from, shape-read}
 use Rattle.header_laws.proofs.Done.{answer-of-head, decoded-of-record, done-known}
 
@@ -36,7 +40,7 @@ unfolding refusedAs
 refused-as (Head.Ended e) f = refl
 refused-as Head.BadHeader f = refl
 refused-as (Head.BadType t) f = refl
-refused-as (Record word flags declared size) f = absurd (f refl)
+refused-as (Record s) f = absurd (f refl)
 
 -- the size of a header that is read
 size-read : (bs : List ℕ) (l : Layout) → lacking < sizeFor l (countOf bs) → sizeFor l (countOf bs) ≤ length bs → headerSize (typeFrom l (numbersOf bs l)) ≡ sizeFor l (countOf bs)
@@ -46,12 +50,34 @@ size-read bs l some room =
     ap (λ (k : Layout). sizeFor k (countIn (typeFrom l vs))) (layout-from l (countOf bs) vs some)
     ∙ ap (λ (s : List Field × ℕ). s .1) (shape-read bs l (countOf bs) room)
 
+-- a summary with another socket and die
+abbrev naming : Origin → Summary → Summary
+naming o s = record { word = s .word; flags = s .flags; declared = s .declared; size = s .size; socket = o .socket; die = o .die }
+
+-- the socket and the die of a header that is read
+origin-read : (bs : List ℕ) (word flags : ℕ) → word ≡ le 4 bs 0
+    → originNamed (headerOf bs word flags .«header_type») ≡ originOf bs word flags
+unfolding originOf numbersOf readAll
+origin-read bs word flags e = by (layoutOf word flags)
+  where
+    by : (l : Layout) → originNamed (typeFrom l (numbersOf bs l)) ≡ originIn l bs word
+    by Zero = refl
+    by One = refl
+    by Two = refl
+    by Three = refl
+    by Four = refl
+    by Five = refl
+    by Six = refl
+    by LegacyServer = rw e
+    by LegacyGpu = refl
+    by Bad = refl
+
 module _ (rules bs : List ℕ) where
   -- ---- one try, and the decode
 
   module _ (valid : validOf rules ≡ true) where
     -- a record that one try finds is decoded, with its flags, declared bytes and size
-    pub record-decoded : {word flags declared size : ℕ} → headOf rules bs ≡ Record word flags declared size → decodedOf rules bs ≡ decodedRecord bs word flags declared size
+    pub record-decoded : {s : Summary} → headOf rules bs ≡ Record s → decodedOf rules bs ≡ decodedRecord bs s
     record-decoded = decoded-of-record rules bs valid
 
     -- ended, by the same ending, bad header and bad type: the one gives them where the other does
@@ -68,9 +94,13 @@ module _ (rules bs : List ℕ) where
 
   -- a decode that is done
   module _ (done : d .answer ≡ Done) where
-    -- a record that is decoded is one that one try finds
-    pub decoded-record : headOf rules bs ≡ Record (wordOf bs) (d .flags) (d .declared) (d .«header_size»)
-    decoded-record = let found = done-known rules bs done in rw (found .decoded) (found .head)
+    -- a record that is decoded is one that one try finds, with its flags, declared bytes and size, and the socket and the die that its header names
+    pub decoded-record : headOf rules bs ≡ Record (decodedSummary (wordOf bs) d)
+    decoded-record =
+        let found = done-known rules bs done in
+        let word = wordOf bs in
+        let flags = flagsOf rules word in
+        rw (found .decoded) (found .head ∙ ap (λ (o : Origin). Record (naming o (summaryOf bs word flags))) (sym (origin-read bs word flags (found .word-is))))
 
     -- ---- the header itself
 
@@ -90,7 +120,7 @@ unfolding judgedFrom
 number-from (Head.Ended e) = refl
 number-from Head.BadHeader = refl
 number-from (Head.BadType t) = refl
-number-from (Record word flags declared size) = refl
+number-from (Record s) = refl
 
 -- one try and decode answer with the same number
 pub numbers-agree : (rules bs : List ℕ) → validOf rules ≡ true → numberOf (decodedOf rules bs .answer) ≡ headNumber (headOf rules bs)

@@ -13,7 +13,7 @@ use Rattle.basics.proofs.Bools.{both}
 use Rattle.layout.proofs.Full.{read-full, length-bytes}
 use Rattle.rules.specs.Rules.{validOf, flagsOf}
 use Rattle.header_judge.specs.Version.{noWord, endMark, wordOf, revision, versionOf, InBits, wordFrom}
-use Rattle.header_judge.specs.Head.{legacy, declaredOf, layoutOf, sizesEnd, sizeFor, countOf, enough, sizeOf, headWith, headOf}
+use Rattle.header_judge.specs.Head.{legacy, declaredOf, layoutOf, sizesEnd, sizeFor, countOf, enough, sizeOf, summaryOf, headWith, headOf}
 use Rattle.header_judge.specs.declared.version.Version.{Version}
 use Rattle.header_judge.specs.declared.Layout.{Layout}
 use Rattle.header_judge.specs.declared.Head.the-variants.{Record}
@@ -126,7 +126,7 @@ module _ (rules : List ℕ) (valid : validOf rules ≡ true) (h : Header) (can :
       ∙ ap (λ (s : List Field × ℕ). enough bs (s .1)) shape-is
       ∙ sym (enough-there bs size room)
 
-  head-is : headOf rules bs ≡ Record word flags (declaredOf bs flags) (sizeOf bs word flags)
+  head-is : headOf rules bs ≡ Record (summaryOf bs word flags)
   unfolding headOf
   head-is =
       ap (λ (w : ℕ). headWith bs w (flagsOf rules w)) word-is

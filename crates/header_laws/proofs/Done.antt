@@ -11,7 +11,8 @@ use borrow.Author.Tests.{eqb-false}
 use Rattle.le.specs.Le.{le}
 use Rattle.rules.specs.Rules.{validOf, flagsOf}
 use Rattle.header_judge.specs.Version.{noWord, endMark, wordOf}
-use Rattle.header_judge.specs.Head.{lacking, declaredOf, layoutOf, countOf, sizeFor, sizeOf, headOf}
+use Rattle.header_judge.specs.Head.{lacking, layoutOf, countOf, sizeFor, sizeOf, summaryOf, headOf}
+use Rattle.header_judge.specs.declared.Summary.{Summary}
 use Rattle.header_judge.specs.declared.Head.{Head}
 use Rattle.header_judge.specs.declared.Head.the-variants.{Record}
 use Rattle.header_judge.proofs.Heads.{record-told}
@@ -37,7 +38,7 @@ unfolding judgedFrom
 answer-from (Head.Ended e) = refl
 answer-from Head.BadHeader = refl
 answer-from (Head.BadType t) = refl
-answer-from (Record word flags declared size) = refl
+answer-from (Record s) = refl
 
 module _ (rules bs : List ℕ) where
   module _ (valid : validOf rules ≡ true) where
@@ -48,7 +49,7 @@ module _ (rules bs : List ℕ) where
     pub answer-of-head : decodedOf rules bs .answer ≡ answerFor (headOf rules bs)
     answer-of-head = ap (λ (d : Decoded). d .answer) decoded-from ∙ answer-from (headOf rules bs)
 
-    pub decoded-of-record : {word flags declared size : ℕ} → headOf rules bs ≡ Record word flags declared size → decodedOf rules bs ≡ decodedRecord bs word flags declared size
+    pub decoded-of-record : {s : Summary} → headOf rules bs ≡ Record s → decodedOf rules bs ≡ decodedRecord bs s
     unfolding judgedFrom
     decoded-of-record e = decoded-from ∙ ap (λ (h : Head). decodedFrom bs (judgedFrom h)) e
 
@@ -66,9 +67,9 @@ module _ (rules bs : List ℕ) where
   abbrev flags : ℕ
   flags = flagsOf rules word
 
-  -- the record of the bytes
-  abbrev here : Head
-  here = Record word flags (declaredOf bs flags) (sizeOf bs word flags)
+  -- what the header of the bytes says of its record
+  abbrev here : Summary
+  here = summaryOf bs word flags
 
   -- what is known where a decode is done
   pub record Known : Type 0 where
@@ -79,8 +80,8 @@ module _ (rules bs : List ℕ) where
     pub size : sizeOf bs word flags ≡ sizeFor (layoutOf word flags) (countOf bs)
     pub some : lacking < sizeFor (layoutOf word flags) (countOf bs)
     pub room : sizeFor (layoutOf word flags) (countOf bs) ≤ length bs
-    pub head : headOf rules bs ≡ here
-    pub decoded : decodedOf rules bs ≡ decodedRecord bs word flags (declaredOf bs flags) (sizeOf bs word flags)
+    pub head : headOf rules bs ≡ Record here
+    pub decoded : decodedOf rules bs ≡ decodedRecord bs here
 
   pub done-known : decodedOf rules bs .answer ≡ Done → Known
   done-known done = by (headOf rules bs) refl (sym (answer-of-head (done-valid done)) ∙ done)
@@ -89,12 +90,12 @@ module _ (rules bs : List ℕ) where
       by (Head.Ended ending) e f = absurd (let o : _≡_ {A = ℕ} 0 1 = cc in omega arith)
       by Head.BadHeader e f = absurd (let o : _≡_ {A = ℕ} 0 1 = cc in omega arith)
       by (Head.BadType t) e f = absurd (let o : _≡_ {A = ℕ} 0 1 = cc in omega arith)
-      by (Record w f d z) e _ =
+      by (Record s) e _ =
           let told = record-told rules bs e in
-          let there : word ≡ noWord → ⊥ = rw (← told .word-is) (told .there) in
-          let some : lacking < sizeOf bs word flags = rw (← told .word-is, ← told .flags-are) (told .found) in
+          let there = told .there in
+          let some = told .found in
           let size = size-found bs word flags some in
-          let head : headOf rules bs ≡ here = rw (← told .word-is, ← told .flags-are, ← told .declared-is, ← told .size-is) e in
+          let head = e ∙ ap Record (told .is) in
           record {
             valid = done-valid done;
             there = there;

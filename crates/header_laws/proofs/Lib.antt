@@ -6,5 +6,6 @@ pub mod Done
 pub mod Encoded
 pub mod Version
 pub mod Agree
+pub mod Longer
 pub mod DecodeEncode
 pub mod EncodeDecode

@@ -13,11 +13,11 @@ use Rattle.layout.specs.Fields.{Field, Below, readAll}
 use Rattle.basics.proofs.Bools.{both}
 use Rattle.layout.proofs.Runs.{below-cells}
 use Rattle.header_judge.specs.Version.{versionOf, revision}
-use Rattle.header_judge.specs.Head.{layoutOf, countOf}
+use Rattle.header_judge.specs.Head.{layoutOf, countOf, serverDie}
 use Rattle.header_judge.specs.declared.version.Version.{Version}
 use Rattle.header_judge.specs.declared.Layout.{Layout}
 use Rattle.header_judge.specs.declared.RecordSize.{RecordSize}
-use Rattle.header.specs.Layouts.{tableOf, serverDie, padded, nth, typeFrom, statusesFrom}
+use Rattle.header.specs.Layouts.{tableOf, padded, nth, typeFrom, statusesFrom}
 use Rattle.header.specs.Header.{numbersOf, headerOf}
 use Rattle.header.specs.Access.{layoutIn, countIn}
 use Rattle.header.specs.declared.Header.{Header}

@@ -15,11 +15,11 @@ use Rattle.layout.specs.Runs.{cells}
 use Rattle.layout.proofs.Full.{full-fits}
 use Rattle.layout.proofs.Puts.{fieldAt, read-put, put-bytes}
 use Rattle.header_judge.specs.Version.{revision}
-use Rattle.header_judge.specs.Head.{lacking, sizeFor, countOf}
+use Rattle.header_judge.specs.Head.{lacking, sizeFor, countOf, serverDie}
 use Rattle.header_judge.specs.declared.Layout.{Layout}
 use Rattle.header_judge.specs.declared.Layout.the-variants.{Zero, One, Two, Three, Four, Five, Six, LegacyServer, LegacyGpu, Bad}
 use Rattle.header_judge.proofs.Sizes.{count-there}
-use Rattle.header.specs.Layouts.{tableOf, lowCount, serverDie, padded}
+use Rattle.header.specs.Layouts.{tableOf, lowCount, padded}
 use Rattle.header.proofs.Statuses.{length-words}
 use Rattle.header_write.specs.Fit.{fieldsFit}
 use Rattle.header_write.specs.Values.{valuesFor}

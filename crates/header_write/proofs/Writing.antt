@@ -7,7 +7,7 @@ use native.Mathlib.Omega.{arith}
 use lib.Dec.{eqb}
 use borrow.Author.Tests.{ltb-true, leb-true}
 use Rattle.basics.proofs.Bools.{both}
-use Rattle.header.specs.Layouts.{serverDie}
+use Rattle.header_judge.specs.Head.{serverDie}
 use Rattle.header.specs.Access.{countIn}
 use Rattle.header.specs.declared.HeaderType.{HeaderType}
 use Rattle.header.specs.declared.HeaderType.the-variants.{Type0, Type1, Type2, Type3, Type4, Type5, Type6, Type0LegacyServer, Type0LegacyGpu}

@@ -8,7 +8,9 @@ use native.Mathlib.Omega.{arith}
 use lib.ListN.{length}
 use Rattle.rules.specs.Rules.{has, sizesInBytes, rulesOf, flagsOf, noneHas}
 use Rattle.rules.proofs.Laws.{flags-lack}
+use Rattle.header_judge.specs.Version.{wordOf}
 use Rattle.header_judge.specs.Head.{declaredOf, headOf}
+use Rattle.header_judge.specs.declared.Summary.{Summary}
 use Rattle.header_judge.specs.declared.Head.the-variants.{Record}
 use Rattle.region_try.specs.Tries.{allTries}
 use Rattle.region_rows.specs.Rows.{capacity}
@@ -29,11 +31,10 @@ unfolding declaredOf
 declared-fours bs flags e = rw e (omega arith)
 
 module _ (rules : List ℕ) (words : noneHas sizesInBytes (rulesOf rules) ≡ true) where
-  record-fours : (bs : List ℕ) (w f d z : ℕ) → headOf rules bs ≡ Record w f d z → d % 4 ≡ 0
-  unfolding headOf
-  record-fours bs w f d z e =
-      let told = record-told rules bs e in
-      rw (told .declared-is, told .flags-are) (declared-fours bs (flagsOf rules w) (flags-lack rules w 3 words))
+  record-fours : (bs : List ℕ) (s : Summary) → headOf rules bs ≡ Record s → s .declared % 4 ≡ 0
+  record-fours bs s e =
+      let word = wordOf bs in
+      rw (record-told rules bs e .is) (declared-fours bs (flagsOf rules word) (flags-lack rules word 3 words))
 
   fours-are-units : Units rules fours
   fours-are-units =
@@ -41,7 +42,7 @@ module _ (rules : List ℕ) (words : noneHas sizesInBytes (rulesOf rules) ≡ tr
         of-none = refl;
         of-some = λ n h. omega arith;
         of-more = λ m n h. omega arith;
-        of-record = λ bs w f d z e n. let k : d % 4 ≡ 0 = record-fours bs w f d z e in omega arith;
+        of-record = λ bs s e n. let k : s .declared % 4 ≡ 0 = record-fours bs s e in omega arith;
       }
 
 -- ---- the positions visited

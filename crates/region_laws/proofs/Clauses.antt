@@ -120,29 +120,29 @@ module _ (rules : List ℕ) where
     onward-clean level parent offset b bs n (Ended ending) rest after e go = rw e
     onward-clean level parent offset b bs n BadHeader rest after e go = rw e
     onward-clean level parent offset b bs n (BadType t) rest after e go = rw e
-    onward-clean level parent offset b bs n (Record word flags declared size) rest after e go = by (eqb declared 0)
+    onward-clean level parent offset b bs n (Record s) rest after e go = by (eqb (s .declared) 0)
       where
         row : Span
-        row = spanOf level parent offset (length (b ∷ bs)) word flags declared size
+        row = spanOf level parent offset (length (b ∷ bs)) s
 
         inner : List Try
-        inner = within box (take declared (b ∷ bs)) row n
+        inner = within box (take (s .declared) (b ∷ bs)) row n
 
         held : List (List ℕ)
-        held = cond (isBox word flags) (regions offset (take declared (b ∷ bs)) size) []
+        held = cond (isBox (s .word) (s .flags)) (regions offset (take (s .declared) (b ∷ bs)) (s .size)) []
 
         later : List Try
-        later = rest (declared - 1) (n + 1 + length (rowsFound inner))
+        later = rest (s .declared - 1) (n + 1 + length (rowsFound inner))
 
         by : (b₁ : Bool)
-            → all stopsClean (onward box (b ∷ bs) n (cond b₁ (none level offset (Record word flags declared size)) (hit row)) rest)
-            ≡ (cleanIn (drop (cond b₁ 0 (suc (reach rules (declared - 1) bs))) (b ∷ bs)) && all clean (cond b₁ [] (held ++ after (declared - 1))))
+            → all stopsClean (onward box (b ∷ bs) n (cond b₁ (none level offset (Record s)) (hit row)) rest)
+            ≡ (cleanIn (drop (cond b₁ 0 (suc (reach rules (s .declared - 1) bs))) (b ∷ bs)) && all clean (cond b₁ [] (held ++ after (s .declared - 1))))
         by true = rw e
         by false =
             all-append stopsClean inner later
-            ∙ ap₂ (λ (a c : Bool). a && c) (within-clean (isBox word flags) (take declared (b ∷ bs)) offset size n) (go (declared - 1) (n + 1 + length (rowsFound inner)))
-            ∙ swapped (all clean held) (cleanIn (drop (reach rules (declared - 1) bs) bs)) (all clean (after (declared - 1)))
-            ∙ ap (λ (a : Bool). cleanIn (drop (reach rules (declared - 1) bs) bs) && a) (sym (all-append clean held (after (declared - 1))))
+            ∙ ap₂ (λ (a c : Bool). a && c) (within-clean (isBox (s .word) (s .flags)) (take (s .declared) (b ∷ bs)) offset (s .size) n) (go (s .declared - 1) (n + 1 + length (rowsFound inner)))
+            ∙ swapped (all clean held) (cleanIn (drop (reach rules (s .declared - 1) bs) bs)) (all clean (after (s .declared - 1)))
+            ∙ ap (λ (a : Bool). cleanIn (drop (reach rules (s .declared - 1) bs) bs) && a) (sym (all-append clean held (after (s .declared - 1))))
 
     records-clean : (levels parent skip : ℕ) (bs : List ℕ) (offset n : ℕ)
         → all stopsClean (records rules box levels parent skip bs offset n) ≡ (cleanIn (drop (reach rules skip bs) bs) && all clean (regionsIn regions skip bs offset))

@@ -49,22 +49,22 @@ module _ (rules : List ℕ) where
     onward-at level parent offset bs n (Ended ending) rest after e = refl
     onward-at level parent offset bs n BadHeader rest after e = refl
     onward-at level parent offset bs n (BadType t) rest after e = refl
-    onward-at level parent offset bs n (Record word flags declared size) rest after e = by (eqb declared 0)
+    onward-at level parent offset bs n (Record s) rest after e = by (eqb (s .declared) 0)
       where
         row : Span
-        row = spanOf level parent offset (length bs) word flags declared size
+        row = spanOf level parent offset (length bs) s
 
         tries : List Try
-        tries = within box (take declared bs) row n
+        tries = within box (take (s .declared) bs) row n
 
         by : (b : Bool)
-            → offsets (onward box bs n (cond b (none level offset (Record word flags declared size)) (hit row)) rest)
-            ≡ offset ∷ cond b [] (cond (isBox word flags) (inside offset (take declared bs) size) [] ++ after (declared - 1))
+            → offsets (onward box bs n (cond b (none level offset (Record s)) (hit row)) rest)
+            ≡ offset ∷ cond b [] (cond (isBox (s .word) (s .flags)) (inside offset (take (s .declared) bs) (s .size)) [] ++ after (s .declared - 1))
         by true = refl
         by false =
             ap (λ (l : List ℕ). offset ∷ l)
-            (offsets-append tries (rest (declared - 1) (n + 1 + length (rowsFound tries)))
-            ∙ ap₂ (λ (a b : List ℕ). a ++ b) (within-at (isBox word flags) (take declared bs) offset size n) (e (declared - 1) (n + 1 + length (rowsFound tries))))
+            (offsets-append tries (rest (s .declared - 1) (n + 1 + length (rowsFound tries)))
+            ∙ ap₂ (λ (a b : List ℕ). a ++ b) (within-at (isBox (s .word) (s .flags)) (take (s .declared) bs) offset (s .size) n) (e (s .declared - 1) (n + 1 + length (rowsFound tries))))
 
     records-at : (levels parent skip : ℕ) (bs : List ℕ) (offset n : ℕ) → offsets (records rules box levels parent skip bs offset n) ≡ positionsIn inside skip bs offset
     unfolding records inRegion

@@ -40,18 +40,18 @@ module _ (rules : List ℕ) where
   stands-onward parent offset b bs n (Ended ending) rest e after = ap header (sym e)
   stands-onward parent offset b bs n BadHeader rest e after = ap header (sym e)
   stands-onward parent offset b bs n (BadType t) rest e after = ap header (sym e)
-  stands-onward parent offset b bs n (Record word flags declared size) rest e after = by (eqb declared 0)
+  stands-onward parent offset b bs n (Record s) rest e after = by (eqb (s .declared) 0)
     where
       by : (b₁ : Bool)
-          → standsAt 0 (onward (boxTries rules deepest) (b ∷ bs) n (cond b₁ (none 0 offset (Record word flags declared size)) (hit (spanOf 0 parent offset (length (b ∷ bs)) word flags declared size))) rest)
-          ≡ standingIn rules (drop (cond b₁ 0 (suc (reach rules (declared - 1) bs))) (b ∷ bs))
+          → standsAt 0 (onward (boxTries rules deepest) (b ∷ bs) n (cond b₁ (none 0 offset (Record s)) (hit (spanOf 0 parent offset (length (b ∷ bs)) s))) rest)
+          ≡ standingIn rules (drop (cond b₁ 0 (suc (reach rules (s .declared - 1) bs))) (b ∷ bs))
       by true = ap header (sym e)
       by false =
-          let r = spanOf 0 parent offset (length (b ∷ bs)) word flags declared size in
-          let inner = within (boxTries rules deepest) (take declared (b ∷ bs)) r n in
+          let r = spanOf 0 parent offset (length (b ∷ bs)) s in
+          let inner = within (boxTries rules deepest) (take (s .declared) (b ∷ bs)) r n in
           let m = n + 1 + length (rowsFound inner) in
-          past-within 0 (boxTries rules deepest) (past-box rules deepest 0 (omega arith) (omega arith)) (take declared (b ∷ bs)) r n (rest (declared - 1) m)
-          ∙ after (declared - 1) m
+          past-within 0 (boxTries rules deepest) (past-box rules deepest 0 (omega arith) (omega arith)) (take (s .declared) (b ∷ bs)) r n (rest (s .declared - 1) m)
+          ∙ after (s .declared - 1) m
 
   stands-records : (parent skip : ℕ) (bs : List ℕ) (offset n : ℕ)
       → standsAt 0 (records rules (boxTries rules deepest) deepest parent skip bs offset n) ≡ standingIn rules (drop (reach rules skip bs) bs)
@@ -80,7 +80,7 @@ header-number : (head : Head) → 2 ≤ stopNumber (stopBy head)
 header-number (Ended ending) = ended-number ending
 header-number BadHeader = omega arith
 header-number (BadType t) = omega arith
-header-number (Record word flags declared size) = omega arith
+header-number (Record s) = omega arith
 
 end-untold : EndOfInput ≡ Untold → ⊥
 end-untold e = let z : stopNumber EndOfInput ≡ stopNumber Untold = ap stopNumber e in omega arith

@@ -5,23 +5,24 @@ use mathlib.Core.List.{List, [], _∷_, _++_}
 use mathlib.Core.Bool.{cond}
 use lib.Dec.{eqb, leb}
 use lib.ListN.{length, take, drop}
+use Rattle.header_judge.specs.declared.Summary.{Summary}
 use Rattle.header_judge.specs.declared.Head.{Head}
 use Rattle.header_judge.specs.declared.Head.the-variants.{Ended, BadHeader, BadType, Record}
 use Rattle.header_judge.specs.Head.{isBox, headOf}
 use Rattle.region_try.specs.Tries.{deepest}
 
--- by a header: one thing where the region stops there, else another, from the record's word, flags, declared bytes and header size
-unfoldable pub byHead : {A : Type 0} → Head → A → (ℕ → ℕ → ℕ → ℕ → A) → A
+-- by a header: one thing where the region stops there, else another, from what the header says of its record
+unfoldable pub byHead : {A : Type 0} → Head → A → (Summary → A) → A
 byHead (Ended ending) stops goes = stops
 byHead BadHeader stops goes = stops
 byHead (BadType t) stops goes = stops
-byHead (Record word flags declared size) stops goes = cond (eqb declared 0) stops (goes word flags declared size)
+byHead (Record s) stops goes = cond (eqb (s .declared) 0) stops (goes s)
 
 -- from a header on: nothing where the region stops; else what a Box has inside, from its held bytes and its header's size, and what the rest has,
 -- which is given the bytes to skip
 abbrev pub following : {A : Type 0} → (List ℕ → ℕ → List A) → List ℕ → Head → (ℕ → List A) → List A
 following box bytes head rest =
-    byHead head [] (λ word flags declared size. cond (isBox word flags) (box (take declared bytes) size) [] ++ rest (declared - 1))
+    byHead head [] (λ s. cond (isBox (s .word) (s .flags)) (box (take (s .declared) bytes) (s .size)) [] ++ rest (s .declared - 1))
 
 -- inside a Box: from its own position, its held bytes and its header's size
 abbrev pub Gather : Type 0 → Type 0

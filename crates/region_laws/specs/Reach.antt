@@ -12,7 +12,7 @@ use Rattle.region_laws.specs.Nested.{byHead}
 
 -- how far the walk comes from a header on: nowhere where the region stops; else past this byte and as far as the rest, which is given the bytes to skip
 abbrev pub onto : Head → (ℕ → ℕ) → ℕ
-onto head rest = byHead head 0 (λ word flags declared size. suc (rest (declared - 1)))
+onto head rest = byHead head 0 (λ s. suc (rest (s .declared - 1)))
 
 module _ (rules : List ℕ) where
   -- how far it comes in a region, after `skip` of its bytes; the last record may reach past the end

@@ -1,4 +1,4 @@
--- A span row's numbers and a table of rows (document 01, 'The nested listing').
+-- A span row's numbers and a table of rows (document 01, 'The nested listing'; document 02, C-17).
 use Prim.Native.Nat.{ℕ, zero, suc, _+_, _*_, _/_}
 use mathlib.Core.List.{List, [], _∷_, _++_}
 use lib.ListN.{length, drop, getD}
@@ -9,11 +9,11 @@ use Rattle.region_rows.specs.declared.Span.{Span}
 
 -- a row's numbers, in the table's order
 abbrev pub numbers : Span → List ℕ
-numbers r = r .level ∷ r .parent ∷ r .offset ∷ r .held ∷ r .declared ∷ r .size ∷ r .word ∷ r .flags ∷ []
+numbers r = r .level ∷ r .parent ∷ r .offset ∷ r .held ∷ r .declared ∷ r .size ∷ r .word ∷ r .socket ∷ r .die ∷ r .flags ∷ []
 
 -- how many they are
 abbrev pub width : ℕ
-width = 8
+width = 10
 
 -- the parent row at the top
 abbrev pub top : ℕ
@@ -45,7 +45,9 @@ spanAt t row =
       declared = getD t (at + 4) 0;
       size = getD t (at + 5) 0;
       word = getD t (at + 6) 0;
-      flags = getD t (at + 7) 0;
+      socket = getD t (at + 7) 0;
+      die = getD t (at + 8) 0;
+      flags = getD t (at + 9) 0;
     }
 
 -- the table with a row written

@@ -1,10 +1,11 @@
-// A span row (document 01, 'The nested listing') in a lent table: its numbers, written and read, and the rows that a table has room for.
+// A span row (document 01, 'The nested listing'; document 02, C-17) in a lent table: its numbers, written and read, and the rows that a table has room for.
 ghost use mathlib.Core.Path.{_≡_};
 ghost use Prim.Native.Nat.{min, _+_, _*_, _≤_};
 ghost use lib.ListN.{length};
 ghost use Rattle.region_rows.specs.Rows.{width, mostRows, capacity, withSpan, spanAt};
 
-// A record's row: `parent` is a row's number, `size` the header's, `word` the version word.
+// A record's row: `parent` is a row's number, `size` the header's, `word` the version word; `socket` and `die` are those that the header
+// names.
 pub struct Span {
     pub level: u32,
     pub parent: u32,
@@ -13,11 +14,13 @@ pub struct Span {
     pub declared: u32,
     pub size: u32,
     pub word: u32,
+    pub socket: u32,
+    pub die: u32,
     pub flags: u32,
 }
 
 // The numbers of a row.
-pub const WIDTH: usize = 8;
+pub const WIDTH: usize = 10;
 
 // The parent row at the top. No row has this number: at most MOST_ROWS rows are used.
 pub const TOP: u32 = 4294967295;
@@ -51,7 +54,9 @@ pub fn put(spans: &mut [u32], row: usize, span: Span)
     spans[at + 4] = span.declared;
     spans[at + 5] = span.size;
     spans[at + 6] = span.word;
-    spans[at + 7] = span.flags;
+    spans[at + 7] = span.socket;
+    spans[at + 8] = span.die;
+    spans[at + 9] = span.flags;
 }
 
 // Reads a row.
@@ -68,6 +73,8 @@ pub fn get(spans: &[u32], row: usize) -> Span
         declared: spans[at + 4],
         size: spans[at + 5],
         word: spans[at + 6],
-        flags: spans[at + 7],
+        socket: spans[at + 7],
+        die: spans[at + 8],
+        flags: spans[at + 9],
     }
 }

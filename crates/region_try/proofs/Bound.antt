@@ -9,13 +9,14 @@ use native.Mathlib.Omega.{arith}
 use native.Mathlib.Nat.{suc-mul, mul-le-mul-left, sub-zero}
 use lib.Dec.{leb}
 use lib.ListN.{length, take, drop, length-append, length-take, length-drop}
+use Rattle.header_judge.specs.declared.Summary.{Summary}
 use Rattle.header_judge.specs.declared.Head.the-variants.{Record}
 use Rattle.header_judge.specs.Head.{isBox, headOf}
 use Rattle.region_rows.specs.declared.Span.{Span}
 use Rattle.region_rows.specs.Rows.{top}
 use Rattle.region_try.specs.Tries.{Try, none, hit, tryOf, deepest, rowsFound, Inside, within, onward, records, boxTries, regionTries, allTries}
 use Rattle.basics.proofs.Orders.{le-or-lt}
-use Rattle.region_try.proofs.Heads.{hit-whence}
+use Rattle.region_try.proofs.Heads.{summaryIn, hit-whence}
 
 -- one try, l for each of x, and one more for each of y
 spread : (l x y z : ℕ) → 0 < x → x + y ≤ z → suc (l * x + suc l * y) ≤ suc l * z
@@ -32,7 +33,7 @@ pub record Units (rules : List ℕ) (u : ℕ → ℕ) : Type 0 where
   pub of-none : u 0 ≡ 0
   pub of-some : (n : ℕ) → 0 < n → 0 < u n
   pub of-more : (m n : ℕ) → m ≤ n → u m ≤ u n
-  pub of-record : (bs : List ℕ) (word flags declared size : ℕ) → headOf rules bs ≡ Record word flags declared size → (n : ℕ) → u declared + u n ≤ u (declared + n)
+  pub of-record : (bs : List ℕ) (s : Summary) → headOf rules bs ≡ Record s → (n : ℕ) → u (s .declared) + u n ≤ u (s .declared + n)
 
 module _ (rules : List ℕ) (u : ℕ → ℕ) (q : Units rules u) where
   -- at most l tries inside a Box for each unit of its held bytes
@@ -47,12 +48,12 @@ module _ (rules : List ℕ) (u : ℕ → ℕ) (q : Units rules u) where
       by false = omega arith
 
   -- the units of a record's held bytes, and of those after it
-  parted : (bs : List ℕ) (r : Span) → headOf rules bs ≡ Record (r .word) (r .flags) (r .declared) (r .size)
+  parted : (bs : List ℕ) (r : Span) → headOf rules bs ≡ Record (summaryIn r)
       → u (length (take (r .declared) bs)) + u (length bs - r .declared) ≤ u (length bs)
   parted bs r e = rw (length-take (r .declared) bs) (⊎-elim
       (λ (h : r .declared ≤ length bs).
       let a : min (r .declared) (length bs) ≡ r .declared = omega arith in
-      let s : u (r .declared) + u (length bs - r .declared) ≤ u (r .declared + (length bs - r .declared)) = q .of-record bs (r .word) (r .flags) (r .declared) (r .size) e (length bs - r .declared) in
+      let s : u (r .declared) + u (length bs - r .declared) ≤ u (r .declared + (length bs - r .declared)) = q .of-record bs (summaryIn r) e (length bs - r .declared) in
       let j : r .declared + (length bs - r .declared) ≡ length bs = omega arith in
       rw a (rw j at s))
       (λ (h : length bs < r .declared).
@@ -118,4 +119,4 @@ module _ (rules : List ℕ) (u : ℕ → ℕ) (q : Units rules u) where
 
 -- every byte is a unit
 pub bytes-are-units : (rules : List ℕ) → Units rules (λ n. n)
-bytes-are-units rules = record { of-none = refl; of-some = λ n h. h; of-more = λ m n h. h; of-record = λ bs word flags declared size e n. omega arith }
+bytes-are-units rules = record { of-none = refl; of-some = λ n h. h; of-more = λ m n h. h; of-record = λ bs s e n. omega arith }

@@ -7,9 +7,10 @@ use Prim.Native.Nat.{ℕ, _<_, min}
 use native.Mathlib.Omega.{arith}
 use lib.Dec.{eqb}
 use lib.ListN.{length}
-use borrow.Author.Tests.{ne-eqb, eqb-false}
+use borrow.Author.Tests.{eq-eqb, ne-eqb, eqb-false}
 use Rattle.header_judge.specs.Version.{noWord, endingOf, headerType}
-use Rattle.header_judge.specs.Head.{noSize, lacking, sizeOf, declaredOf}
+use Rattle.header_judge.specs.Head.{noSize, lacking, sizeOf, declaredOf, summaryOf}
+use Rattle.header_judge.specs.declared.Summary.{Summary}
 use Rattle.header_judge.specs.declared.Head.{Head}
 use Rattle.header_judge.specs.declared.Head.the-variants.{Ended, BadHeader, BadType, Record}
 use Rattle.header_judge.proofs.Heads.{head-ended, head-bad-type, head-bad-header, head-record}
@@ -50,17 +51,21 @@ module _ (level parent offset : ℕ) (bs : List ℕ) (word flags : ℕ) where
 
   pub empty-stops : (word ≡ noWord → ⊥) → lacking < sizeOf bs word flags → declaredOf bs flags ≡ 0 → Stopped this Stop.SizeZero 0
   unfolding tryOf
-  empty-stops f h e = rw (head-record bs word flags f h, e) (stopped level offset (Record word flags 0 (sizeOf bs word flags)))
+  empty-stops f h e = rw (head-record bs word flags f h, eq-eqb _ _ e) (stopped level offset (Record (summaryOf bs word flags)))
 
   pub record-hit : (word ≡ noWord → ⊥) → lacking < sizeOf bs word flags → (declaredOf bs flags ≡ 0 → ⊥)
-      → this ≡ hit (spanOf level parent offset (length bs) word flags (declaredOf bs flags) (sizeOf bs word flags))
+      → this ≡ hit (spanOf level parent offset (length bs) (summaryOf bs word flags))
   unfolding tryOf
   record-hit f h g = rw (head-record bs word flags f h, ne-eqb _ _ g)
+
+-- what the header of a row's record says
+abbrev pub summaryIn : Span → Summary
+summaryIn r = record { word = r .word; flags = r .flags; declared = r .declared; size = r .size; socket = r .socket; die = r .die }
 
 -- what the row of a record says of its header and its place
 pub record Whence (depth at left : ℕ) (head : Head) (r : Span) : Type 0 where
   pub level : r .level ≡ depth
-  pub is : head ≡ Record (r .word) (r .flags) (r .declared) (r .size)
+  pub is : head ≡ Record (summaryIn r)
   pub offset : r .offset ≡ at
   pub some : 0 < r .declared
   pub held : r .held ≡ min (r .declared) left
@@ -70,15 +75,14 @@ unfolding tryOf
 hit-whence level parent offset left (Ended ending) r e = absurd (let z : _≡_ {A = ℕ} 0 1 = cc in omega arith)
 hit-whence level parent offset left BadHeader r e = absurd (let z : _≡_ {A = ℕ} 0 1 = cc in omega arith)
 hit-whence level parent offset left (BadType t) r e = absurd (let z : _≡_ {A = ℕ} 0 1 = cc in omega arith)
-hit-whence level parent offset left (Record word flags declared size) r e = by (eqb declared 0) refl e
+hit-whence level parent offset left (Record s) r e = by (eqb (s .declared) 0) refl e
   where
-    by : (b : Bool) → eqb declared 0 ≡ b
-        → cond b (none level offset (Record word flags declared size)) (hit (spanOf level parent offset left word flags declared size)) ≡ hit r
-        → Whence level offset left (Record word flags declared size) r
+    by : (b : Bool) → eqb (s .declared) 0 ≡ b → cond b (none level offset (Record s)) (hit (spanOf level parent offset left s)) ≡ hit r
+        → Whence level offset left (Record s) r
     by true k e = absurd (let z : _≡_ {A = ℕ} 0 1 = cc in omega arith)
     by false k e =
-        let q : spanOf level parent offset left word flags declared size ≡ r = cc in
-        let d : declared ≡ 0 → ⊥ = eqb-false declared 0 k in
+        let q : spanOf level parent offset left s ≡ r = cc in
+        let d : s .declared ≡ 0 → ⊥ = eqb-false (s .declared) 0 k in
         rw (← q) (record { level = refl; is = refl; offset = refl; some = omega arith; held = refl })
 
 -- a try without a record has the level of its region
@@ -87,8 +91,8 @@ unfolding tryOf
 none-level level parent offset left (Ended ending) e = cc
 none-level level parent offset left BadHeader e = cc
 none-level level parent offset left (BadType t) e = cc
-none-level level parent offset left (Record word flags declared size) e = by (eqb declared 0) e
+none-level level parent offset left (Record s) e = by (eqb (s .declared) 0) e
   where
-    by : (b : Bool) {l o : ℕ} {h : Head} → cond b (none level offset (Record word flags declared size)) (hit (spanOf level parent offset left word flags declared size)) ≡ none l o h → l ≡ level
+    by : (b : Bool) {l o : ℕ} {h : Head} → cond b (none level offset (Record s)) (hit (spanOf level parent offset left s)) ≡ none l o h → l ≡ level
     by true e = cc
     by false e = absurd (let z : _≡_ {A = ℕ} 0 1 = cc in omega arith)

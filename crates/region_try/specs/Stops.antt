@@ -32,7 +32,7 @@ abbrev pub stopBy : Head → Stop
 stopBy (Head.Ended ending) = stopEnded ending
 stopBy Head.BadHeader = BadHeader
 stopBy (Head.BadType t) = BadType
-stopBy (Head.Record word flags declared size) = SizeZero
+stopBy (Head.Record s) = SizeZero
 
 abbrev pub stopOf : Standing → Stop
 stopOf unknown = Untold
@@ -56,7 +56,7 @@ abbrev pub badTypeBy : Head → ℕ
 badTypeBy (Head.Ended ending) = 0
 badTypeBy Head.BadHeader = 0
 badTypeBy (Head.BadType t) = t
-badTypeBy (Head.Record word flags declared size) = 0
+badTypeBy (Head.Record s) = 0
 
 abbrev pub badTypeOf : Standing → ℕ
 badTypeOf unknown = 0

@@ -6,6 +6,7 @@ use lib.Dec.{eqb, leb}
 use lib.ListN.{length, take, drop}
 use Rattle.region_rows.specs.declared.Span.{Span}
 use Rattle.region_rows.specs.Rows.{top}
+use Rattle.header_judge.specs.declared.Summary.{Summary}
 use Rattle.header_judge.specs.declared.Head.{Head}
 use Rattle.header_judge.specs.declared.Head.the-variants.{Ended, BadHeader, BadType, Record}
 use Rattle.header_judge.specs.Head.{isBox, headOf}
@@ -22,18 +23,29 @@ pub data Try : Type 0 where
 abbrev pub deepest : ℕ
 deepest = 4
 
--- the row of a record from whose start on its region has so many bytes left
-abbrev pub spanOf : ℕ → ℕ → ℕ → ℕ → ℕ → ℕ → ℕ → ℕ → Span
-spanOf level parent offset left word flags declared size =
-    record { level = level; parent = parent; offset = offset; held = min declared left; declared = declared; size = size; word = word; flags = flags }
+-- the row of a record from whose start on its region has so many bytes left, by what its header says
+abbrev pub spanOf : ℕ → ℕ → ℕ → ℕ → Summary → Span
+spanOf level parent offset left s =
+    record {
+      level = level;
+      parent = parent;
+      offset = offset;
+      held = min (s .declared) left;
+      declared = s .declared;
+      size = s .size;
+      word = s .word;
+      socket = s .socket;
+      die = s .die;
+      flags = s .flags;
+    }
 
 -- the try at an offset where a header stands: ended, bad and declared size 0 are no record
 unfoldable pub tryOf : ℕ → ℕ → ℕ → ℕ → Head → Try
 tryOf level parent offset left (Ended ending) = none level offset (Ended ending)
 tryOf level parent offset left BadHeader = none level offset BadHeader
 tryOf level parent offset left (BadType t) = none level offset (BadType t)
-tryOf level parent offset left (Record word flags declared size) =
-    cond (eqb declared 0) (none level offset (Record word flags declared size)) (hit (spanOf level parent offset left word flags declared size))
+tryOf level parent offset left (Record s) =
+    cond (eqb (s .declared) 0) (none level offset (Record s)) (hit (spanOf level parent offset left s))
 
 -- the rows that some tries find
 unfoldable pub rowsFound : List Try → List Span

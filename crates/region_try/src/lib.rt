@@ -3,12 +3,14 @@ ghost use mathlib.Core.Path.{_≡_};
 ghost use Prim.Native.Nat.{_*_, _≤_, _<_, _^_};
 ghost use lib.ListN.{length};
 ghost use Rattle.region_rows.specs.Rows.{width};
+ghost use Rattle.region_try.specs.Tries.{spanOf};
 ghost use Rattle.region_try.specs.Steps.{sizeless, tryAt, found, RowBounds};
 
 pub mod stop;
 
 use header_judge::LACKING;
 use header_judge::NO_SIZE;
+use header_judge::Summary;
 use header_judge::version::NO_WORD;
 use header_judge::version::ending_of;
 use region_rows::Span;
@@ -61,6 +63,26 @@ fn sizeless(word: u32, size: usize) -> Found
     }
 }
 
+// The row of a record, by its place and what its header says; from its start on its region has so many bytes left.
+fn span_of(level: u32, parent: u32, offset: usize, left: usize, summary: Summary) -> Span
+    requires { ⌜ (offset < 2 ^ 32) × (summary .declared ≤ 524280) × (summary .size ≤ 536) ⌝ }
+    ensures { λ r. ⌜ r ≡ spanOf level parent offset left summary ⌝ }
+{
+    let held = region_rows::least(summary.declared, left);
+    Span {
+        level: level,
+        parent: parent,
+        offset: offset as u32,
+        held: held as u32,
+        declared: summary.declared as u32,
+        size: summary.size as u32,
+        word: summary.word,
+        socket: summary.socket,
+        die: summary.die,
+        flags: summary.flags,
+    }
+}
+
 // One try, where the header's word and flags are known: the header is judged first, then the room for its row.
 pub fn try_at(
     bytes: &[u8],
@@ -97,20 +119,11 @@ pub fn try_at(
     if room <= rows {
         return Found::NoRoom;
     }
-    let held = region_rows::least(declared, bytes.len());
-    let span = Span {
-        level: level,
-        parent: parent,
-        offset: offset as u32,
-        held: held as u32,
-        declared: declared as u32,
-        size: size as u32,
-        word: word,
-        flags: flags,
-    };
+    let summary = header_judge::summary_of(bytes, word, flags, declared, size);
+    let span = span_of(level, parent, offset, bytes.len(), summary);
     region_rows::put(spans, rows as usize, span);
     Found::Row {
-        held: held,
+        held: span.held as usize,
         declared: declared,
         size: size,
         boxed: header_judge::is_box(word, flags),

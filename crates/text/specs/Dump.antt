@@ -3,8 +3,9 @@ use Prim.Native.Nat.{ℕ, _*_}
 use Prim.Native.String.{String}
 use mathlib.Core.Bool.{Bool, cond}
 use mathlib.Core.List.{List, [], _∷_, _++_}
-use lib.Dec.{ltb}
+use lib.Dec.{eqb, ltb}
 use lib.ListN.{length, replicate}
+use Rattle.header_judge.specs.Head.{noDie}
 use Rattle.header_judge.specs.Version.{recordType}
 use Rattle.region_rows.specs.declared.Span.{Span}
 use Rattle.region_rows.specs.Rows.{width, spansIn}
@@ -23,21 +24,26 @@ each text (x ∷ xs) = text x ++ each text xs
 -- ---- the lines
 
 abbrev pub heading : List ℕ
-heading = ascii "level offset held declared header version name\n"
+heading = ascii "level offset held declared header version socket die name\n"
 
 -- a number and the space after it
 abbrev pub column : ℕ → List ℕ
 column n = decimal n ++ ascii " "
 
--- a version word and the name of its record type
-abbrev pub version : ℕ → List ℕ
-version word = hex word ++ ascii " " ++ textOf (recordType word)
+-- a version word and the space after it
+abbrev pub versionColumn : ℕ → List ℕ
+versionColumn word = hex word ++ ascii " "
+
+-- a die, or a dash for none, and the space after it
+abbrev pub dieColumn : ℕ → List ℕ
+dieColumn die = cond (eqb die noDie) (ascii "- ") (column die)
 
 -- a row's line
 unfoldable pub rowLine : Span → List ℕ
 rowLine r =
     each column (r .level ∷ r .offset ∷ r .held ∷ r .declared ∷ r .size ∷ [])
-    ++ version (r .word) ++ ascii "\n"
+    ++ versionColumn (r .word) ++ column (r .socket) ++ dieColumn (r .die)
+    ++ textOf (recordType (r .word)) ++ ascii "\n"
 
 -- the lines of some rows
 abbrev pub lines : List Span → List ℕ

@@ -10,3 +10,21 @@ pub record Puts (before : List ℕ) (at : ℕ) (text : List ℕ) (most : ℕ) (a
   pub bytes : after ≡ sets before at text
   pub ends : next ≡ at + length text
   pub few : next ≤ at + most
+
+-- ---- the most bytes
+
+-- of a number of 64 bits in decimal
+abbrev pub mostDigits : ℕ
+mostDigits = 20
+
+-- of a number of 32 bits and the space after it
+abbrev pub mostColumn : ℕ
+mostColumn = 11
+
+-- of a row's line
+abbrev pub mostLine : ℕ
+mostLine = 103
+
+-- of the last line
+abbrev pub mostLast : ℕ
+mostLast = 91

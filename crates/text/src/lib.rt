@@ -7,11 +7,12 @@ ghost use Rattle.header_judge.specs.Version.{recordType};
 ghost use Rattle.region_rows.specs.Rows.{width, spansIn};
 ghost use Rattle.names.specs.Names.{textOf};
 ghost use Rattle.text.specs.Number.{decimal};
-ghost use Rattle.text.specs.Dump.{each, column, version, rowLine, lines, yesNo, lastLine, listing, dumpText};
-ghost use Rattle.text.specs.Steps.{Puts};
+ghost use Rattle.text.specs.Dump.{each, column, versionColumn, dieColumn, rowLine, lines, yesNo, lastLine, listing, dumpText};
+ghost use Rattle.text.specs.Steps.{Puts, mostDigits, mostColumn, mostLine, mostLast};
 
 mod put;
 
+use header_judge::origin::NO_DIE;
 use header_judge::version::Version;
 use put::put_column;
 use put::put_decimal;
@@ -32,15 +33,20 @@ const NO_RULES: [u32; 0] = [];
 
 const NUMBERS: usize = MOST_ROWS * region_rows::WIDTH;
 
-// The most bytes of a text: the heading, the rows of at most 81 bytes, and the last line.
-pub const MOST_TEXT: usize = 47 + MOST_ROWS * 81 + 91;
+// The most bytes of a row's line and of the last line.
+const MOST_LINE: usize = 103;
+
+const MOST_LAST: usize = 91;
+
+// The most bytes of a text: the heading, the rows, and the last line.
+pub const MOST_TEXT: usize = 58 + MOST_ROWS * MOST_LINE + MOST_LAST;
 
 // The numbers that a row's line begins with.
 const COLUMNS: usize = 5;
 
 fn put_columns(out: &mut [u8], at: usize, numbers: [u32; COLUMNS]) -> usize
-    requires { ⌜ at + 64 ≤ length (now out) ⌝ }
-    ensures { λ r. ⌜ Puts (now (out .entry)) at (each column numbers) 55 (now (out .exit)) r ⌝ }
+    requires { ⌜ at + 5 * mostColumn ≤ length (now out) ⌝ }
+    ensures { λ r. ⌜ Puts (now (out .entry)) at (each column numbers) (5 * mostColumn) (now (out .exit)) r ⌝ }
 {
     let mut next = at;
     let mut i = 0;
@@ -63,31 +69,44 @@ fn put_name(out: &mut [u8], at: usize, word: u32) -> usize
     put_text(out, at, &bytes[..len])
 }
 
-// A version word and the name of its record type.
+// A version word, and the space after it.
 fn put_version(out: &mut [u8], at: usize, word: u32) -> usize
-    requires { ⌜ at + 25 ≤ length (now out) ⌝ }
-    ensures { λ r. ⌜ Puts (now (out .entry)) at (version word) 25 (now (out .exit)) r ⌝ }
+    requires { ⌜ at + 9 ≤ length (now out) ⌝ }
+    ensures { λ r. ⌜ Puts (now (out .entry)) at (versionColumn word) 9 (now (out .exit)) r ⌝ }
 {
     let digits = put_hex(out, at, word);
-    let space = put_text(out, digits, b" ");
-    put_name(out, space, word)
+    put_text(out, digits, b" ")
+}
+
+// A die, or a dash for none, and the space after it.
+fn put_die(out: &mut [u8], at: usize, die: u32) -> usize
+    requires { ⌜ at + mostColumn ≤ length (now out) ⌝ }
+    ensures { λ r. ⌜ Puts (now (out .entry)) at (dieColumn die) mostColumn (now (out .exit)) r ⌝ }
+{
+    if die == NO_DIE {
+        return put_text(out, at, b"- ");
+    }
+    put_column(out, at, die)
 }
 
 // A row's line.
 fn put_row(out: &mut [u8], at: usize, row: Span) -> usize
-    requires { ⌜ at + 81 ≤ length (now out) ⌝ }
-    ensures { λ r. ⌜ Puts (now (out .entry)) at (rowLine row) 81 (now (out .exit)) r ⌝ }
+    requires { ⌜ at + mostLine ≤ length (now out) ⌝ }
+    ensures { λ r. ⌜ Puts (now (out .entry)) at (rowLine row) mostLine (now (out .exit)) r ⌝ }
 {
     let numbers = [row.level, row.offset, row.held, row.declared, row.size];
     let columns = put_columns(out, at, numbers);
     let version = put_version(out, columns, row.word);
-    put_text(out, version, b"\n")
+    let socket = put_column(out, version, row.socket);
+    let die = put_die(out, socket, row.die);
+    let name = put_name(out, die, row.word);
+    put_text(out, name, b"\n")
 }
 
 // The lines of a table's first rows.
 fn put_rows(out: &mut [u8], at: usize, spans: &[u32], rows: usize) -> usize
-    requires { ⌜ (rows * width ≤ length (now spans)) × (at + rows * 81 ≤ length (now out)) ⌝ }
-    ensures { λ r. ⌜ Puts (now (out .entry)) at (lines (spansIn (now (spans .entry)) rows)) (rows * 81) (now (out .exit)) r ⌝ }
+    requires { ⌜ (rows * width ≤ length (now spans)) × (at + rows * mostLine ≤ length (now out)) ⌝ }
+    ensures { λ r. ⌜ Puts (now (out .entry)) at (lines (spansIn (now (spans .entry)) rows)) (rows * mostLine) (now (out .exit)) r ⌝ }
 {
     let mut next = at;
     let mut i = 0;
@@ -111,8 +130,8 @@ fn put_whole(out: &mut [u8], at: usize, whole: bool) -> usize
 
 // A text and a number in decimal.
 fn put_count(out: &mut [u8], at: usize, text: &[u8], n: u64) -> usize
-    requires { ⌜ at + (length (now text) + 20) ≤ length (now out) ⌝ }
-    ensures { λ r. ⌜ Puts (now (out .entry)) at (now (text .entry) ++ decimal n) (length (now (text .entry)) + 20) (now (out .exit)) r ⌝ }
+    requires { ⌜ at + (length (now text) + mostDigits) ≤ length (now out) ⌝ }
+    ensures { λ r. ⌜ Puts (now (out .entry)) at (now (text .entry) ++ decimal n) (length (now (text .entry)) + mostDigits) (now (out .exit)) r ⌝ }
 {
     let next = put_text(out, at, text);
     put_decimal(out, next, n)
@@ -120,8 +139,8 @@ fn put_count(out: &mut [u8], at: usize, text: &[u8], n: u64) -> usize
 
 // The last line.
 fn put_last(out: &mut [u8], at: usize, listing: Listing) -> usize
-    requires { ⌜ at + 91 ≤ length (now out) ⌝ }
-    ensures { λ r. ⌜ Puts (now (out .entry)) at (lastLine listing) 91 (now (out .exit)) r ⌝ }
+    requires { ⌜ at + mostLast ≤ length (now out) ⌝ }
+    ensures { λ r. ⌜ Puts (now (out .entry)) at (lastLine listing) mostLast (now (out .exit)) r ⌝ }
 {
     let answer = listing.answer;
     let rows = put_count(out, at, b"rows ", listing.rows as u64);
@@ -149,7 +168,11 @@ pub fn dump(region: &[u8], out: &mut [u8; MOST_TEXT]) -> usize
 {
     let mut spans = [0u32; NUMBERS];
     let listing = listing_of(region, &mut spans);
-    let heading = put_text(out, 0, b"level offset held declared header version name\n");
+    let heading = put_text(
+        out,
+        0,
+        b"level offset held declared header version socket die name\n",
+    );
     let rows = put_rows(out, heading, &spans, listing.rows as usize);
     put_last(out, rows, listing)
 }

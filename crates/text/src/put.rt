@@ -3,7 +3,7 @@ ghost use Prim.Native.Nat.{_+_, _≤_};
 ghost use lib.ListN.{length};
 ghost use Rattle.text.specs.Dump.{column};
 ghost use Rattle.text.specs.Number.{decimal, hex};
-ghost use Rattle.text.specs.Steps.{Puts};
+ghost use Rattle.text.specs.Steps.{Puts, mostDigits, mostColumn};
 
 // The digits of a number of 64 bits in decimal, and of one of 32 bits in hexadecimal.
 const MOST_DIGITS: usize = 20;
@@ -20,8 +20,8 @@ pub(crate) fn put_text(out: &mut [u8], at: usize, text: &[u8]) -> usize
 
 // A number in decimal.
 pub(crate) fn put_decimal(out: &mut [u8], at: usize, n: u64) -> usize
-    requires { ⌜ at + 20 ≤ length (now out) ⌝ }
-    ensures { λ r. ⌜ Puts (now (out .entry)) at (decimal n) 20 (now (out .exit)) r ⌝ }
+    requires { ⌜ at + length (decimal n) ≤ length (now out) ⌝ }
+    ensures { λ r. ⌜ Puts (now (out .entry)) at (decimal n) mostDigits (now (out .exit)) r ⌝ }
 {
     let mut digits = [0u8; MOST_DIGITS];
     let count = io::decimal(n, &mut digits);
@@ -30,8 +30,8 @@ pub(crate) fn put_decimal(out: &mut [u8], at: usize, n: u64) -> usize
 
 // A number of 32 bits in decimal, and the space after it.
 pub(crate) fn put_column(out: &mut [u8], at: usize, n: u32) -> usize
-    requires { ⌜ at + 20 ≤ length (now out) ⌝ }
-    ensures { λ r. ⌜ Puts (now (out .entry)) at (column n) 11 (now (out .exit)) r ⌝ }
+    requires { ⌜ at + mostColumn ≤ length (now out) ⌝ }
+    ensures { λ r. ⌜ Puts (now (out .entry)) at (column n) mostColumn (now (out .exit)) r ⌝ }
 {
     let next = put_decimal(out, at, n as u64);
     put_text(out, next, b" ")

@@ -6,7 +6,7 @@ use Rattle.le.specs.Le.{le}
 use Rattle.rules.specs.Rules.{rulesOf, withRules, flagsOf, flagsSmall, validOf}
 use Rattle.layout.specs.Fields.{readAll}
 use Rattle.header_judge.specs.Version.{wordOf, endingOf}
-use Rattle.header_judge.specs.Head.{declaredOf, sizeOf, headWith, headOf}
+use Rattle.header_judge.specs.Head.{declaredOf, sizeOf, originOf, headWith, headOf}
 use Rattle.header.specs.Header.{numbersOf, judgedFrom, judgedOf, decodedOf}
 use Rattle.region_try.specs.Tries.{tryOf, rowsFound, standsAt, onward, records, boxTries, regionTries, allTries}
 use Rattle.region_rows.specs.Rows.{flat, laid}
@@ -15,5 +15,5 @@ use Rattle.region.specs.Listing.{shown, walked, listed}
 use Rattle.worked_examples.specs.Examples.{examples, computed, stated}
 
 pub all-examples : map computed examples ≡ map stated examples
-unfolding computed le rulesOf withRules flagsOf flagsSmall validOf readAll wordOf endingOf declaredOf sizeOf headWith headOf numbersOf judgedFrom judgedOf decodedOf tryOf rowsFound standsAt onward records boxTries regionTries allTries keepsWhole allKeepWhole shown flat laid walked listed
+unfolding computed le rulesOf withRules flagsOf flagsSmall validOf readAll wordOf endingOf declaredOf sizeOf originOf headWith headOf numbersOf judgedFrom judgedOf decodedOf tryOf rowsFound standsAt onward records boxTries regionTries allTries keepsWhole allKeepWhole shown flat laid walked listed
 all-examples = refl

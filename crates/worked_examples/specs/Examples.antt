@@ -1,17 +1,18 @@
--- The worked examples P1 to P12 of document 01, 'Checked examples', with each ending and each reason of document 02's C-12 and each clause of its C-14,
--- as one table of rows.
+-- The worked examples P1 to P12 of document 01, 'Checked examples', with each ending and each reason of document 02's C-12, each clause of its C-14
+-- and the socket and die of each layout of its C-17, as one table of rows.
 use Prim.Native.Nat.{ℕ, zero, suc, _+_, _*_, _/_, _%_}
 use mathlib.Core.Bool.{Bool, true, false}
 use mathlib.Core.List.{List, [], _∷_, _++_}
 use lib.ListN.{length, take, replicate}
 use Rattle.answers.specs.Numbers.{ended}
+use Rattle.header_judge.specs.Head.{noDie}
 use Rattle.header.specs.Access.{dieOf}
 use Rattle.header.specs.Header.{numberOf, endingTold, decodedOf}
 use Rattle.header.specs.declared.HeaderType.{HeaderType}
 use Rattle.header.specs.declared.HeaderType.the-variants.{Type0, Type1, Type2, Type3, Type4, Type5, Type6, Type0LegacyServer, Type0LegacyGpu}
 use Rattle.header.specs.declared.access.Die.{Die}
 use Rattle.region_rows.specs.declared.Span.{Span}
-use Rattle.region_rows.specs.Rows.{width, top, flat}
+use Rattle.region_rows.specs.Rows.{width, top, spanAt, flat}
 use Rattle.region_try.specs.Stops.{stopNumber}
 use Rattle.region.specs.Listing.{listed, typeOf, numberOf as listingNumber}
 
@@ -26,6 +27,8 @@ pub data Example : Type 0 where
   ends : (bytes : List ℕ) (ending : ℕ) → Example
   -- the die of a legacy server header of a revision, decoded under a rule that makes it one
   die : (revision id : ℕ) → Example
+  -- a record of a header type and a revision, listed under a rule that gives it flags: the socket and the die of its row
+  names : (type revision flags socket id : ℕ) → Example
   -- a type 6 header with a halfword at 26: status count, complete, header size
   half : (word count : ℕ) (complete : Bool) (size : ℕ) → Example
 
@@ -58,10 +61,10 @@ dumped =
     ∷ 0x01 ∷ 0x31 ∷ 0x12 ∷ 0x3e ∷ 4 ∷ 0 ∷ 0 ∷ 0
     ∷ []
 
--- a row without flags: level, parent row, offset, held, declared, version word; every header here has 8 bytes
+-- a row without socket, die and flags: level, parent row, offset, held, declared, version word; every header here has 8 bytes
 abbrev row : ℕ → ℕ → ℕ → ℕ → ℕ → ℕ → Span
 row level parent offset held declared word =
-    record { level = level; parent = parent; offset = offset; held = held; declared = declared; size = 8; word = word; flags = 0 }
+    record { level = level; parent = parent; offset = offset; held = held; declared = declared; size = 8; word = word; socket = 0; die = noDie; flags = 0 }
 
 -- the row of a Punit record of 8 bytes, alone at the start
 abbrev rowFirst : Span
@@ -96,6 +99,10 @@ stopping tail whole = marks (small ++ tail) 0 whole ∷ marks (nest 1 (small ++ 
 -- a Box that declares 7 of its header's 8 bytes, before a zero word
 abbrev thin : List ℕ
 thin = box 7 ++ zeros
+
+-- C-17: a record of 32 bytes, with its size where either kind of header has it, 0x24 at byte 24, 0x25 at byte 25, and one status word for type 6
+abbrev marked : ℕ → ℕ → List ℕ
+marked type revision = (revision ∷ type ∷ 0x12 ∷ 0x03 ∷ 8 ∷ replicate 11 0) ++ (8 ∷ replicate 7 0) ++ (0x24 ∷ 0x25 ∷ 1 ∷ replicate 5 0)
 
 -- ---- the table
 
@@ -157,7 +164,27 @@ examples =
     ++ (stopping (1 ∷ 2 ∷ 3 ∷ []) false
     ++ (stopping (take 5 small) false
     ++ (stopping (punit 0x37 8) false
-    ++ stopping (punit 0x31 0) false))))))
+    ++ (stopping (punit 0x31 0) false
+    -- C-17: by the header type, by flag 1 and the revision, by flag 2; flag 1 comes first, whatever the type
+    ++ (names 0 1 0 0 noDie
+    ∷ names 1 1 0 0 noDie
+    ∷ names 2 1 0 0 noDie
+    ∷ names 3 1 0 0 noDie
+    ∷ names 4 1 0 0 noDie
+    ∷ names 5 1 0 0 noDie
+    ∷ names 6 1 0 0x25 0x24
+    ∷ names 6 1 4 0x25 0x24
+    ∷ names 0 0x83 1 0x24 12
+    ∷ names 0 0x03 1 0x24 12
+    ∷ names 0 0x81 1 0x24 10
+    ∷ names 0 0x02 1 0x24 8
+    ∷ names 0 0x7c 1 0x24 0
+    ∷ names 0 0xfc 1 0x24 9
+    ∷ names 6 0x02 1 0x24 8
+    ∷ names 7 0x02 3 0x24 8
+    ∷ names 0 0x02 2 0 noDie
+    ∷ names 6 0x02 2 0 noDie
+    ∷ []))))))))
 
 -- ---- what the definitions say of an example
 
@@ -181,13 +208,9 @@ halfIn (Type5 stamp status e) = []
 halfIn (Type0LegacyServer stamp d k status) = []
 halfIn (Type0LegacyGpu stamp status) = []
 
--- a rule by which every size counts bytes
-abbrev allInBytes : List ℕ
-allInBytes = 0 ∷ 0 ∷ 8 ∷ []
-
--- a rule that makes every header a legacy server's
-abbrev allServers : List ℕ
-allServers = 0 ∷ 0 ∷ 1 ∷ []
+-- a rule that gives every record flags; with 1 every header is a legacy server's
+abbrev always : ℕ → List ℕ
+always flags = 0 ∷ 0 ∷ flags ∷ []
 
 -- a header of 32 bytes with a revision, and one of type 6 with a halfword
 abbrev revised : ℕ → List ℕ
@@ -202,14 +225,18 @@ computed (lists bytes limit room answer type rows tries whole stop spans) =
     listingNumber (end .1 .answer) ∷ typeOf (end .1 .answer) ∷ end .1 .rows ∷ end .1 .tries ∷ bit (end .1 .whole) ∷ stopNumber (end .1 .stop)
     ∷ take (end .1 .rows * width) (end .0)
 computed (marks bytes answer whole) =
-    let end = listed allInBytes bytes 9 (replicate (9 * width) 0) in
+    let end = listed (always 8) bytes 9 (replicate (9 * width) 0) in
     listingNumber (end .1 .answer) ∷ bit (end .1 .whole) ∷ []
 computed (ends bytes ending) =
     let end = decodedOf [] bytes in
     numberOf (end .answer) ∷ endingTold (end .answer) ∷ []
 computed (die revision id) =
-    let end = decodedOf allServers (revised revision) in
+    let end = decodedOf (always 1) (revised revision) in
     numberOf (end .answer) ∷ dieNumber (dieOf (end .header .«header_type»))
+computed (names type revision flags socket id) =
+    let end = listed (always flags) (marked type revision) 9 (replicate (9 * width) 0) in
+    let first = spanAt (end .0) 0 in
+    listingNumber (end .1 .answer) ∷ first .socket ∷ first .die ∷ first .flags ∷ []
 computed (half word count complete size) =
     let end = decodedOf [] (counted word) in
     numberOf (end .answer) ∷ end .«header_size» ∷ halfIn (end .header .«header_type»)
@@ -220,4 +247,5 @@ stated (lists bytes limit room answer type rows tries whole stop spans) = answer
 stated (marks bytes answer whole) = answer ∷ bit whole ∷ []
 stated (ends bytes ending) = ended ∷ ending ∷ []
 stated (die revision id) = 0 ∷ id ∷ []
+stated (names type revision flags socket id) = 0 ∷ socket ∷ id ∷ flags ∷ []
 stated (half word count complete size) = 0 ∷ size ∷ count ∷ bit complete ∷ []

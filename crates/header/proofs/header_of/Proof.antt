@@ -2,26 +2,19 @@
 -- From its parts; the bytes of the layout are there because a size was found. Assumes nothing.
 use mathlib.Core.Path.{_≡_, ap₂}
 use mathlib.Core.List.{List}
-use Prim.Native.Nat.{ℕ, _≤_, _<_}
-use lib.ListN.{length}
+use Prim.Native.Nat.{ℕ}
 use Rattle.header_judge.specs.Version.{versionOf}
-use Rattle.header_judge.specs.Head.{recordSize, extendedSize, lacking, sizeFor, countOf, layoutOf, sizeOf}
+use Rattle.header_judge.specs.Head.{recordSize, extendedSize, layoutOf}
 use Rattle.header_judge.specs.declared.RecordSize.{RecordSize}
 use Rattle.header_judge.specs.declared.version.Version.{Version}
 use Rattle.header.specs.declared.HeaderType.{HeaderType}
 use Rattle.header.specs.Layouts.{typeFrom, statusesFrom}
 use Rattle.header.specs.Header.{numbersOf, headerOf}
 use Rattle.header_judge.specs.declared.Layout.{Layout}
-use Rattle.header_judge.proofs.Sizes.{size-found}
+use Rattle.header_judge.proofs.Sizes.{size-found, size-there}
 use borrow.Author.Needs.{needs}
 use Rattle.header.proofs.header_of.Statement.{statement}
 use Rattle.header.proofs.header_of.Tie as tie
-
--- the bytes of the layout are there
-there : (bs : List ℕ) (word flags : ℕ) (l : Layout) → l ≡ layoutOf word flags → lacking < sizeOf bs word flags → sizeFor l (countOf bs) ≤ length bs
-there bs word flags l e h =
-    let found = size-found bs word flags h in
-    rw (e, ← found .1) (found .2)
 
 abbrev sizes : ℕ → ℕ → RecordSize
 sizes a b = record { «record_size» = a; «extended_record_size» = b }
@@ -47,14 +40,14 @@ fields-of-requires c κs =
     let args = c .before .before .before .before .args in
     let layout-of = c .before .before .layout-of in
     let pre = c .before .before .before .before .pre in
-    there (args .s .now) (args .word) (args .flags) (layout-of .result) (layout-of .ensures) (pre)
+    size-there (args .s .now) (args .word) (args .flags) (layout-of .ensures) pre
 
 statuses-of-requires : tie.Need-statuses-of-requires
 statuses-of-requires c κs =
     let args = c .before .before .before .before .before .args in
     let layout-of = c .before .before .before .layout-of in
     let pre = c .before .before .before .before .before .pre in
-    there (args .s .now) (args .word) (args .flags) (layout-of .result) (layout-of .ensures) (pre)
+    size-there (args .s .now) (args .word) (args .flags) (layout-of .ensures) pre
 
 returns : tie.Need-returns
 returns c =

@@ -37,7 +37,7 @@ returns-4 c = found (c .before .before .before .before) (c .before .before .head
 
 returns-5 : tie.Need-returns-5
 unfolding judgedFrom
-returns-5 c = found (c .before .before .before) (c .before .word .given .1) refl
+returns-5 c = found (c .before .before .before) (c .before .summary .given .1) refl
 
 pub judge-spec : {M : Type 1} → statement M
 judge-spec =

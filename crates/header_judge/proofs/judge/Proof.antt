@@ -1,6 +1,6 @@
 -- `judge` gives what the header is.
 -- By its tests, from the word, the flags and the size. Assumes nothing.
-use mathlib.Core.Path.{_≡_, refl, sym, ap, ap₂, _∙_}
+use mathlib.Core.Path.{_≡_, refl, sym, ap, _∙_}
 use mathlib.Core.List.{List}
 use Prim.Native.Nat.{ℕ, _<_}
 use native.Mathlib.Omega.{arith}
@@ -66,18 +66,24 @@ returns-3 c =
     let s = c .before .before in
     (found s (head-bad-header (bytes s) (word s) (flags s) (there s) (sym (s .size-of .ensures .0) ∙ c .if3 .taken)), tt)
 
+-- past the tests a size is found
+sized : (c : tie.Else3) → lacking < c .before .before .size-of .result
+sized c = omega arith
+
 declared-of-requires : tie.Need-declared-of-requires
-declared-of-requires c κs = c .before .before .size-of .ensures .1 (omega arith) .sizes
+declared-of-requires c κs = c .before .before .size-of .ensures .1 (sized c) .sizes
+
+summary-of-requires : tie.Need-summary-of-requires
+summary-of-requires c κs = (c .declared-of .ensures .0, c .before .before .before .size-of .ensures .0, sized (c .before))
 
 returns-4 : tie.Need-returns-4
 returns-4 c =
-    let s = c .before .before .before in
-    let size = s .size-of in
-    let more : lacking < size .result = omega arith in
-    let bounds = size .ensures .1 more in (
-      ap₂ (λ (d z : ℕ). Record (word s) (flags s) d z) (c .declared-of .ensures .0) (size .ensures .0)
-          ∙ found s (head-record (bytes s) (word s) (flags s) (there s) (rw (size .ensures .0) at more)),
-      (c .declared-of .ensures .1, bounds .least, bounds .most),
+    let more = sized (c .before .before) in
+    let s = c .before .before .before .before in
+    let bounds = s .size-of .ensures .1 more in
+    let said = c .summary-of .ensures in (
+      ap Record said ∙ found s (head-record (bytes s) (word s) (flags s) (there s) (rw (s .size-of .ensures .0) at more)),
+      (rw (said, ← c .before .declared-of .ensures .0) (c .before .declared-of .ensures .1), rw (said, ← s .size-of .ensures .0) (bounds .least), rw (said, ← s .size-of .ensures .0) (bounds .most)),
     )
 
 pub judge-spec : {M : Type 1} → statement M
@@ -92,4 +98,5 @@ judge-spec =
     returns-2
     returns-3
     declared-of-requires
+    summary-of-requires
     returns-4)

@@ -14,7 +14,7 @@ next : (k at : ℕ) → at + suc k ≡ suc (at + k)
 next k at = add-suc at k
 
 returns : tie.Need-returns
-returns c = rw (next 6, next 5, next 4, next 3, next 2, next 1, next 0, add-zero)
+returns c = rw (next 8, next 7, next 6, next 5, next 4, next 3, next 2, next 1, next 0, add-zero)
 
 pub put-spec : {M : Type 1} → statement M
 put-spec =
@@ -23,6 +23,12 @@ put-spec =
     (λ c. search needs)
     (λ c. search needs)
     (λ c. search needs)
+    (λ c. search needs)
+    (λ c. search needs)
+    (λ c. simp length-set (omega arith))
+    (λ c. search needs)
+    (λ c. search needs)
+    (λ c. simp length-set (omega arith))
     (λ c. search needs)
     (λ c. search needs)
     (λ c. simp length-set (omega arith))

@@ -6,7 +6,7 @@ use native.Mathlib.Omega.{arith}
 use lib.ListN.{length}
 use denote.Ref.{now}
 use Rattle.header_judge.specs.Version.{noWord}
-use Rattle.header_judge.specs.Head.{lacking, sizeOf, declaredOf}
+use Rattle.header_judge.specs.Head.{lacking, sizeOf, declaredOf, summaryOf}
 use Rattle.region_try.specs.Tries.{hit, spanOf}
 use Rattle.region_try.specs.Steps.{tryAt}
 use Rattle.region_try.proofs.Heads.{ended-stops, bad-type-stops, bad-header-stops, empty-stops, record-hit}
@@ -21,9 +21,6 @@ sized c = c .before .before .before .before
 
 abbrev declared : tie.After-declared-of → tie.Start
 declared c = sized (c .before .before)
-
-abbrev roomy : tie.After-least → tie.After-declared-of
-roomy c = c .before .before .before
 
 returns : tie.Need-returns
 returns c =
@@ -60,7 +57,7 @@ returns-3 c =
 -- past the three tests a record is there
 is-record : (c : tie.Else3) → let a = declared (c .before) .args in
     tryAt (a .level) (a .parent) (a .offset) (now (a .bytes)) (a .word) (a .flags)
-    ≡ hit (spanOf (a .level) (a .parent) (a .offset) (length (now (a .bytes))) (a .word) (a .flags) (declaredOf (now (a .bytes)) (a .flags)) (sizeOf (now (a .bytes)) (a .word) (a .flags)))
+    ≡ hit (spanOf (a .level) (a .parent) (a .offset) (length (now (a .bytes))) (summaryOf (now (a .bytes)) (a .word) (a .flags)))
 is-record c =
     let a = declared (c .before) .args in
     let there : lacking < sizeOf (now (a .bytes)) (a .word) (a .flags) = omega arith in
@@ -72,24 +69,32 @@ returns-4 c =
     let a = declared (c .before .before) .args in
     (finds-no-room (a .room) (a .rows) (now (a .spans)) (is-record (c .before)) (omega arith), tt)
 
--- the header's size, which is within its bounds
-size-bounds : (c : tie.After-declared-of) → let a = declared c .args in (8 ≤ c .before .before .size-of .result) × (c .before .before .size-of .result ≤ 536)
-size-bounds c = let q = c .before .before .size-of .ensures .1 (omega arith) in (q .least, q .most)
+summary-of-requires : tie.Need-summary-of-requires
+summary-of-requires c κs =
+    let declared-of = c .before .before in
+    (declared-of .declared-of .ensures .0, declared-of .before .before .size-of .ensures .0, omega arith)
 
-cast-size : tie.Need-cast-t22
-cast-size c = let q = size-bounds (roomy c) in omega arith
+span-of-requires : tie.Need-span-of-requires
+span-of-requires c κs =
+    let declared-of = c .before .before .before .declared-of in
+    let size-of = c .before .before .before .before .before .size-of in
+    let said = c .summary-of .ensures in
+    let most : size-of .result ≤ 536 = size-of .ensures .1 (omega arith) .most in
+    (omega arith, rw (said, ← declared-of .ensures .0) (declared-of .ensures .1), rw (said, ← size-of .ensures .0) most)
 
 returns-5 : tie.Need-returns-5
 returns-5 c =
-    let put = c .before .before .before in
-    let least = put .before .before in
-    let declared-of = least .before .before .before in
-    let size-of = declared-of .before .before in
-    let a = size-of .before .before .before .before .args in
-    let q = size-bounds declared-of in (
-      rw (put .put .ensures, c .is-box .ensures, least .least .ensures, size-of .size-of .ensures .0, declared-of .declared-of .ensures .0)
-          (finds-row (a .room) (a .rows) (now (a .spans)) (is-record (least .before .before)) (omega arith)),
-      (omega arith, omega arith, omega arith, omega arith),
+    let put = c .before .before .before .before in
+    let row = put .before .before in
+    let said = row .before in
+    let here = said .before .before in
+    let d = here .before in
+    let a = declared d .args in
+    let size-of = d .before .before .size-of in
+    let bounds = size-of .ensures .1 (omega arith) in (
+      rw (put .put .ensures, c .is-box .ensures, row .span-of .ensures, said .summary-of .ensures, size-of .ensures .0, d .declared-of .ensures .0)
+          (finds-row (a .room) (a .rows) (now (a .spans)) (is-record here) (omega arith)),
+      (omega (arith, here .if3 .left), d .declared-of .ensures .1, omega (arith, bounds .least), bounds .most),
     )
 
 pub try-at-spec : {M : Type 1} → statement M
@@ -105,12 +110,10 @@ try-at-spec =
     declared-of-requires
     returns-3
     returns-4
+    summary-of-requires
+    span-of-requires
     (λ c κs. search needs)
     (λ c. search needs)
-    (λ c. search needs)
-    (λ c. search needs)
-    cast-size
-    (λ c κs. search needs)
     (λ c κs. search needs)
     (λ c. search needs)
     returns-5)

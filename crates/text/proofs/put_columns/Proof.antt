@@ -1,5 +1,5 @@
 -- `put_columns` puts the numbers one after the other.
--- The loop's invariant: the numbers passed are put, each in at most 11 bytes. Assumes nothing.
+-- The loop's invariant: the numbers passed are put, each in at most `mostColumn` bytes. Assumes nothing.
 use mathlib.Core.Path.{_≡_}
 use mathlib.Core.List.{List}
 use Prim.Native.Nat.{ℕ, _+_, _-_, _*_, _≤_, _<_}
@@ -8,7 +8,7 @@ use native.Mathlib.Omega.{arith}
 use lib.ListN.{length, take, getD}
 use lib.Seq.{take-suc, take-all}
 use Rattle.text.specs.Dump.{each, column}
-use Rattle.text.specs.Steps.{Puts}
+use Rattle.text.specs.Steps.{Puts, mostColumn}
 use Rattle.text.proofs.Pieces.{then, keeps-length, nothing, each-none, each-more}
 use borrow.Author.Needs.{needs}
 use Rattle.text.proofs.put_columns.Statement.{statement}
@@ -16,14 +16,14 @@ use Rattle.text.proofs.put_columns.Tie as tie
 
 -- the next number, after those before it
 next-column : {before between after : List ℕ} {at next end : ℕ} (ns : List ℕ) (i : ℕ) → i < length ns
-    → Puts before at (each column (take i ns)) (i * 11) between next → Puts between next (column (getD ns i 0)) 11 after end
-    → Puts before at (each column (take (i + 1) ns)) ((i + 1) * 11) after end
+    → Puts before at (each column (take i ns)) (i * mostColumn) between next → Puts between next (column (getD ns i 0)) mostColumn after end
+    → Puts before at (each column (take (i + 1) ns)) ((i + 1) * mostColumn) after end
 next-column ns i h p q =
-    let more : (i + 1) * 11 ≡ i * 11 + 11 = omega arith in
+    let more : (i + 1) * mostColumn ≡ i * mostColumn + mostColumn = omega arith in
     rw (more, add-one i, take-suc ns i 0 h, each-more column (take i ns) (getD ns i 0)) (then p q)
 
 abbrev Inv-loop : tie.InvT-loop
-Inv-loop out₀ at numbers next₀ i₀ out next i = (i ≤ 5) × Puts out₀ at (each column (take i numbers)) (i * 11) out next
+Inv-loop out₀ at numbers next₀ i₀ out next i = (i ≤ 5) × Puts out₀ at (each column (take i numbers)) (i * mostColumn) out next
 
 abbrev μ-loop : tie.MeasureT-loop
 μ-loop out₀ at numbers next₀ i₀ out next i = 5 - i

@@ -1,4 +1,4 @@
--- `put_row` puts a row's line: the columns, the version and a newline.
+-- `put_row` puts a row's line: the columns, the name and a newline.
 -- One after the other. Assumes nothing.
 use Rattle.text.specs.Dump.{rowLine}
 use Rattle.text.proofs.Pieces.{then}
@@ -10,14 +10,22 @@ returns : tie.Need-returns
 unfolding rowLine
 returns c =
     let end = c .before .before in
-    let version = end .before .before .before .before .before in
+    let name = end .before .before .before .before .before in
+    let die = name .before .before .before .before in
+    let socket = die .before .before .before .before in
+    let version = socket .before .before .before .before in
     let columns = version .before .before .before .before in
-    then (then (columns .put-columns .ensures) (version .put-version .ensures)) (end .put-text .ensures)
+    let numbers = then (columns .put-columns .ensures) (version .put-version .ensures) in
+    let origin = then (then numbers (socket .put-column .ensures)) (die .put-die .ensures) in
+    then (then origin (name .put-name .ensures)) (end .put-text .ensures)
 
 pub put-row-spec : {M : Type 1} → statement M
 put-row-spec =
     tie.close
     (tie.spec
+    (λ c κs. search needs)
+    (λ c κs. search needs)
+    (λ c κs. search needs)
     (λ c κs. search needs)
     (λ c κs. search needs)
     (λ c. search needs)

@@ -1,5 +1,5 @@
 -- `put_rows` puts the lines of a table's first rows.
--- The loop's invariant: the lines of the rows passed are put, each in at most 81 bytes. Assumes nothing.
+-- The loop's invariant: the lines of the rows passed are put, each in at most `mostLine` bytes. Assumes nothing.
 use mathlib.Core.Path.{_≡_}
 use mathlib.Core.List.{List}
 use Prim.Native.Nat.{ℕ, _+_, _-_, _*_, _≤_}
@@ -8,7 +8,7 @@ use native.Mathlib.Omega.{arith}
 use Rattle.region_rows.specs.declared.Span.{Span}
 use Rattle.region_rows.specs.Rows.{spanAt, spansIn}
 use Rattle.text.specs.Dump.{rowLine, lines}
-use Rattle.text.specs.Steps.{Puts}
+use Rattle.text.specs.Steps.{Puts, mostLine}
 use Rattle.text.proofs.Pieces.{then, keeps-length, nothing, each-none, each-more}
 use borrow.Author.Needs.{needs}
 use Rattle.text.proofs.put_rows.Statement.{statement}
@@ -16,15 +16,15 @@ use Rattle.text.proofs.put_rows.Tie as tie
 
 -- the line of the next row, after those before it
 next-line : {before between after : List ℕ} {at next end : ℕ} {r : Span} (t : List ℕ) (i : ℕ) → r ≡ spanAt t i
-    → Puts before at (lines (spansIn t i)) (i * 81) between next → Puts between next (rowLine r) 81 after end
-    → Puts before at (lines (spansIn t (i + 1))) ((i + 1) * 81) after end
+    → Puts before at (lines (spansIn t i)) (i * mostLine) between next → Puts between next (rowLine r) mostLine after end
+    → Puts before at (lines (spansIn t (i + 1))) ((i + 1) * mostLine) after end
 unfolding spansIn
 next-line t i is p q =
-    let more : (i + 1) * 81 ≡ i * 81 + 81 = omega arith in
+    let more : (i + 1) * mostLine ≡ i * mostLine + mostLine = omega arith in
     rw (more, add-one i, each-more rowLine (spansIn t i) (spanAt t i)) (then p (rw is at q))
 
 abbrev Inv-loop : tie.InvT-loop
-Inv-loop out₀ at spans rows next₀ i₀ out next i = (i ≤ rows) × Puts out₀ at (lines (spansIn spans i)) (i * 81) out next
+Inv-loop out₀ at spans rows next₀ i₀ out next i = (i ≤ rows) × Puts out₀ at (lines (spansIn spans i)) (i * mostLine) out next
 
 abbrev μ-loop : tie.MeasureT-loop
 μ-loop out₀ at spans rows next₀ i₀ out next i = rows - i

@@ -1,4 +1,4 @@
--- `put_version` puts a version word and the name of its record type.
+-- `put_version` puts a version word and a space.
 -- One after the other. Assumes nothing.
 use Rattle.text.proofs.Pieces.{then}
 use borrow.Author.Needs.{needs}
@@ -7,10 +7,9 @@ use Rattle.text.proofs.put_version.Tie as tie
 
 returns : tie.Need-returns
 returns c =
-    let name = c .before .before in
-    let space = name .before .before .before .before in
+    let space = c .before .before in
     let digits = space .before .before .before .before .before in
-    then (then (digits .put-hex .ensures) (space .put-text .ensures)) (name .put-name .ensures)
+    then (digits .put-hex .ensures) (space .put-text .ensures)
 
 pub put-version-spec : {M : Type 1} → statement M
 put-version-spec =
@@ -18,7 +17,6 @@ put-version-spec =
     (tie.spec
     (λ c κs. search needs)
     (λ c. search needs)
-    (λ c κs. search needs)
     (λ c κs. search needs)
     (λ c. search needs)
     returns)

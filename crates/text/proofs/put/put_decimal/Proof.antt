@@ -5,6 +5,7 @@ use Prim.Native.Nat.{_≤_}
 use native.Mathlib.Omega.{arith}
 use lib.ListN.{length, take}
 use Rattle.text.specs.Number.{decimal}
+use Rattle.text.specs.Steps.{mostDigits}
 use Rattle.text.proofs.Numbers.{decimal-is, decimal-le}
 use Rattle.text.proofs.Pieces.{fewer}
 use borrow.Author.Needs.{needs}
@@ -18,17 +19,17 @@ start c = c .before .before .before
 is : (c : tie.After-decimal) → take (c .decimal .result) (c .decimal .last .1 .0) ≡ decimal (start c .args .n)
 is c = c .decimal .ensures .1 .1 ∙ decimal-is (start c .args .n) (c .decimal .result) (c .decimal .ensures .1 .0)
 
-few : (c : tie.After-decimal) → length (decimal (start c .args .n)) ≤ 20
+few : (c : tie.After-decimal) → length (decimal (start c .args .n)) ≤ mostDigits
 few c = decimal-le 19 (start c .args .n) (omega (arith, start c .fits .n))
 
 put-text-requires : tie.Need-put-text-requires
-put-text-requires c κs = let written = c .before .before in omega (arith, ap length (is written), few written)
+put-text-requires c κs = let written = c .before .before in omega (arith, ap length (is written))
 
 returns : tie.Need-returns
 returns c =
     let put = c .before .before in
     let written = put .before .before .before in
-    fewer 20 (rw (is written) at (put .put-text .ensures)) (few written)
+    fewer mostDigits (rw (is written) at (put .put-text .ensures)) (few written)
 
 pub put-decimal-spec : {M : Type 1} → statement M
 put-decimal-spec =

@@ -2,8 +2,8 @@
 -- By the test of bit 7. Assumes nothing.
 use borrow.Author.Tests.{eq-eqb, ne-eqb}
 use borrow.Author.Needs.{needs}
-use Rattle.header.proofs.fields.server_die.Statement.{statement}
-use Rattle.header.proofs.fields.server_die.Tie as tie
+use Rattle.header_judge.proofs.origin.server_die.Statement.{statement}
+use Rattle.header_judge.proofs.origin.server_die.Tie as tie
 
 returns : tie.Need-returns
 returns c = rw (eq-eqb _ _ (c .if1 .taken))
