@@ -1,8 +1,8 @@
 /* One call of the library or of plain C, on the numbers of a rule table and the bytes that stand on standard input:
  *
- *     count library|plain list|normalise
+ *     count library|plain list|normalise|receive
  *
- * bench/count counts its instructions. */
+ * To receive is to make a call for each piece of 64 bytes. bench/count counts the instructions. */
 #include <stdbool.h>
 #include <unistd.h>
 
@@ -24,6 +24,18 @@ static size_t filled(void *from, size_t room)
     return held;
 }
 
+static uint32_t receive(bool library, size_t length)
+{
+    static crashlog_receiver receiver;
+    crashlog_listing told;
+    uint64_t rows;
+    (library ? crashlog_receiver_start : plain_receiver_start)(&receiver, table.rules, table.numbers);
+    for (size_t at = 0; at < length; at += CRASHLOG_MOST_PIECE)
+        (library ? crashlog_receiver_feed : plain_receiver_feed)(&receiver, bytes + at, CRASHLOG_MOST_PIECE, spans,
+                                                                 CRASHLOG_RECEIVER_SPAN_WORDS, &rows);
+    return (library ? crashlog_receiver_finish : plain_receiver_finish)(&receiver, spans, CRASHLOG_RECEIVER_SPAN_WORDS, &told);
+}
+
 int main(int count, char **words)
 {
     if (count != 3)
@@ -37,6 +49,8 @@ int main(int count, char **words)
         uint64_t room = sizeof spans / sizeof *spans;
         return (library ? crashlog_list : plain_list)(bytes, length, table.rules, table.numbers, UINT64_MAX, spans, room, &told);
     }
+    if (words[2][0] == 'r')
+        return (int)receive(library, length);
     uint64_t written;
     return (library ? crashlog_normalise : plain_normalise)(bytes, length, out, sizeof out, &written);
 }

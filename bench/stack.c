@@ -1,6 +1,6 @@
 /* The peak stack of each function of crashlog.h. The stack below a call is painted; afterwards it is seen how far down the
  * paint is gone. A function's figure is the most over calls of all kinds: each header type and layout, Boxes deeper than they
- * are opened, short and long bodies, refusals. */
+ * are opened, pieces of each length, short and long bodies, refusals. */
 #include <stdio.h>
 
 #include "crashlog.h"
@@ -12,10 +12,12 @@
 static uint8_t bytes[CRASHLOG_MOST_BYTES + 1], out[CRASHLOG_MOST_BYTES];
 static uint32_t rules[CRASHLOG_RULE_WORDS * CRASHLOG_MOST_RULES];
 static uint32_t spans[NESTED * CRASHLOG_SPAN_WORDS], table[8 * CRASHLOG_SECTION_WORDS];
+static uint32_t arrived[CRASHLOG_RECEIVER_SPAN_WORDS];
 static crashlog_header header;
+static crashlog_receiver receiver;
 
 /* What the next call is made on, what it tells, and the most that a call has used. */
-static uint64_t length, rules_len, room, limit, count;
+static uint64_t from, length, rules_len, room, limit, count;
 static uint32_t number;
 static crashlog_listing listed;
 static crashlog_judged judged;
@@ -24,6 +26,9 @@ static size_t most;
 
 static void nothing(void) {}
 static void list(void) { crashlog_list(bytes, length, rules, rules_len, limit, spans, room, &listed); }
+static void start(void) { crashlog_receiver_start(&receiver, rules, rules_len); }
+static void feed(void) { crashlog_receiver_feed(&receiver, bytes + from, length, arrived, room, &count); }
+static void finish(void) { crashlog_receiver_finish(&receiver, arrived, room, &listed); }
 static void decode(void) { crashlog_decode(bytes, length, rules, rules_len, &header, &judged); }
 static void encode(void) { crashlog_encode(&header, rules, rules_len, out, room, &count); }
 static void sections(void) { crashlog_sections(bytes, length, table, room, &count); }
@@ -112,6 +117,54 @@ static void try_lists(void)
     tell("list");
 }
 
+/* Receives so many bytes of two records, of which the first is all in with a piece that starts in its body. */
+static void receive(uint64_t end, void (*take)(void (*call)(void)))
+{
+    start();
+    room = CRASHLOG_RECEIVER_SPAN_WORDS, length = CRASHLOG_MOST_PIECE;
+    for (from = 0; from < end; from += CRASHLOG_MOST_PIECE)
+        take(feed);
+}
+
+static void make(void (*call)(void))
+{
+    call();
+}
+
+/* Each header type with each layout that the rules can give it: all pieces and one that is too long; the finish in a header, in
+ * a body and after both records, and once more. */
+static void try_receptions(int finishes)
+{
+    static const uint64_t ends[] = {64, 576, 640, 1200};
+    for (uint32_t type = 0; type < 8; type++)
+        for (uint32_t flags = 0; flags < 3; flags++) {
+            put_record(0, type, 600);
+            put_record(600, type, 600);
+            set_flags(flags);
+            if (!finishes) {
+                receive(1200, try);
+                length = CRASHLOG_MOST_PIECE + 1;
+                try(feed);
+            }
+            for (size_t i = 0; finishes && i < sizeof ends / sizeof ends[0]; i++) {
+                receive(ends[i], make);
+                try(finish);
+                try(finish);
+            }
+        }
+}
+
+static void try_receivers(void)
+{
+    for (rules_len = 0; rules_len <= sizeof rules / sizeof rules[0]; rules_len += 8)
+        try(start);
+    tell("receiver_start");
+    try_receptions(0);
+    tell("receiver_feed");
+    try_receptions(1);
+    tell("receiver_finish");
+}
+
 /* Each header type with each layout that the rules can give it. */
 static void try_headers(void (*call)(void))
 {
@@ -162,6 +215,7 @@ static void try_cper(void (*call)(void))
 int main(void)
 {
     try_lists();
+    try_receivers();
     try_headers(decode);
     tell("decode");
     try_headers(encode);

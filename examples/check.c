@@ -1,7 +1,7 @@
 /*
  * Tries the C interface: round trips of headers, the refusals, what is told with each answer, the endings, why a region stops,
- * when a listing is whole, its rooms, socket and die in its rows, CPERs, names and Intel's rules. Prints nothing and ends with
- * status 0 when all is as include/crashlog.h says.
+ * when a listing is whole, its rooms, socket and die in its rows, the receiver, CPERs, names and Intel's rules. Prints nothing
+ * and ends with status 0 when all is as include/crashlog.h says.
  */
 #include <stdio.h>
 #include <stdlib.h>
@@ -511,6 +511,436 @@ static void origins(void)
             }
 }
 
+/* The receiver, and the table that is lent with it, with a row more than it needs. */
+static crashlog_receiver receiver;
+static uint32_t arrived[CRASHLOG_RECEIVER_SPAN_WORDS + CRASHLOG_SPAN_WORDS];
+
+static const uint64_t enough = CRASHLOG_RECEIVER_SPAN_WORDS;
+
+static uint32_t feed(const uint8_t *piece, uint64_t length, uint64_t spans_len)
+{
+    forget();
+    return crashlog_receiver_feed(&receiver, piece, length, arrived, spans_len, &count);
+}
+
+static uint32_t finish(uint64_t spans_len)
+{
+    forget();
+    return crashlog_receiver_finish(&receiver, arrived, spans_len, &listed);
+}
+
+static int table_untouched(void)
+{
+    return all((const uint8_t *)arrived, sizeof arrived, 0xaa);
+}
+
+/* A piece that is refused so: nothing has changed, but by TOO_LONG, which shuts the receiver. */
+static void feed_refused(const uint8_t *piece, uint64_t length, uint64_t spans_len, uint32_t answer)
+{
+    crashlog_receiver before = receiver;
+
+    memset(arrived, 0xaa, sizeof arrived);
+    EXPECT(feed(piece, length, spans_len) == answer && count == 0 && table_untouched());
+    if (answer == CRASHLOG_TOO_LONG)
+        before.stage = receiver.stage;
+    EXPECT(memcmp(&receiver, &before, sizeof before) == 0);
+}
+
+static void finish_refused(uint64_t spans_len, uint32_t answer)
+{
+    crashlog_receiver before = receiver;
+
+    memset(arrived, 0xaa, sizeof arrived);
+    EXPECT(finish(spans_len) == answer && told_listing(0, 0, 0, 0, CRASHLOG_STOP_UNTOLD) && table_untouched());
+    EXPECT(memcmp(&receiver, &before, sizeof before) == 0);
+}
+
+/* A shut receiver refuses all, and for this before any other reason. */
+static void refuses_all(void)
+{
+    static const uint8_t piece[CRASHLOG_MOST_PIECE + 1] = {1};
+
+    feed_refused(NULL, 0, enough, CRASHLOG_NOT_RECEIVING);
+    feed_refused(piece, 1, enough, CRASHLOG_NOT_RECEIVING);
+    feed_refused(piece, sizeof piece, enough, CRASHLOG_NOT_RECEIVING);
+    feed_refused(piece, 1, enough - 1, CRASHLOG_NOT_RECEIVING);
+    finish_refused(enough, CRASHLOG_NOT_RECEIVING);
+    finish_refused(0, CRASHLOG_NOT_RECEIVING);
+}
+
+/* Rules that are refused leave the receiver as it was. */
+static void start_refused(void)
+{
+    static const uint32_t rules[3 * (CRASHLOG_MOST_RULES + 1)];
+    crashlog_receiver before = receiver;
+
+    EXPECT(crashlog_receiver_start(&receiver, bad_rules, 3) == CRASHLOG_BAD_RULES);
+    EXPECT(crashlog_receiver_start(&receiver, rules, 2) == CRASHLOG_BAD_RULES);
+    EXPECT(crashlog_receiver_start(&receiver, rules, 3 * (CRASHLOG_MOST_RULES + 1)) == CRASHLOG_BAD_RULES);
+    EXPECT(memcmp(&receiver, &before, sizeof before) == 0);
+}
+
+/* Receivers that no start has left; the start then makes them all the same. */
+static void unstarted(void)
+{
+    static const uint8_t fills[] = {0, 1, 2, 0x7f, 0x80, 0xff};
+    uint32_t rules[3 * CRASHLOG_MOST_RULES] = {0};
+    crashlog_receiver first;
+
+    for (size_t i = 0; i < sizeof fills; i++) {
+        memset(&receiver, fills[i], sizeof receiver);
+        refuses_all();
+        start_refused();
+        refuses_all();
+        EXPECT(crashlog_receiver_start(&receiver, rules, sizeof rules / sizeof rules[0]) == CRASHLOG_DONE);
+        if (i == 0)
+            first = receiver;
+        EXPECT(memcmp(&receiver, &first, sizeof first) == 0);
+    }
+}
+
+/* A receiver under way, which has taken one record of 8 bytes and 6 bytes of the next. */
+static void start_midway(void)
+{
+    static const uint8_t pieces[] = {0x01, 0x31, 0x12, 0x03, 2, 0, 0, 0, 0x01, 0x31, 0x12, 0x03, 2, 0};
+
+    EXPECT(crashlog_receiver_start(&receiver, NULL, 0) == CRASHLOG_DONE);
+    EXPECT(feed(pieces, sizeof pieces, enough) == CRASHLOG_DONE && count == 1);
+}
+
+/* States that are as a call leaves them but for one thing. */
+static void spoiled(void)
+{
+    start_midway(), receiver.stage = 0, refuses_all();
+    start_midway(), receiver.stage = 2, refuses_all();
+    start_midway(), receiver.stage = 0x01000000, refuses_all();
+    start_midway(), receiver.whole = 2, refuses_all();
+    start_midway(), receiver.rule_blocks = 9, refuses_all();
+    start_midway(), receiver.rule_blocks = UINT64_MAX, refuses_all();
+    start_midway(), receiver.taken = CRASHLOG_MOST_BYTES + 1, refuses_all();
+    start_midway(), receiver.taken = UINT64_MAX, refuses_all();
+    start_midway(), receiver.offset = 15, refuses_all();
+    start_midway(), receiver.offset = UINT64_MAX, refuses_all();
+    start_midway(), receiver.rows = 0, refuses_all();
+    start_midway(), receiver.rows = 9, refuses_all();
+    start_midway(), receiver.rows = UINT64_MAX, refuses_all();
+    start_midway(), receiver.taken = 16, refuses_all(); /* the second record is all in */
+    start_midway(), receiver.kept[6] = receiver.kept[7] = 0, receiver.taken = 1000, refuses_all();
+    /* what may be so stays in use */
+    start_midway(), receiver.whole = 0, receiver.rows = 8, receiver.rule_blocks = 8;
+    EXPECT(feed(NULL, 0, enough) == CRASHLOG_DONE && count == 0);
+    EXPECT(finish(enough) == CRASHLOG_DONE && told_listing(0, 9, 0, 0, CRASHLOG_STOP_BAD_HEADER));
+}
+
+/* Each refusal of a receiver in use, and their order; what is refused is left out. */
+static void in_use(void)
+{
+    static const uint8_t zeros[CRASHLOG_MOST_PIECE + 1];
+    const uint8_t rest[] = {0, 0, 0};
+
+    start_midway();
+    start_refused();
+    feed_refused(zeros, sizeof zeros, enough, CRASHLOG_BAD_PIECE);
+    feed_refused(zeros, sizeof zeros, 0, CRASHLOG_BAD_PIECE);
+    feed_refused(zeros, 1, enough - 1, CRASHLOG_BAD_PIECE);
+    feed_refused(NULL, 0, enough - CRASHLOG_SPAN_WORDS, CRASHLOG_BAD_PIECE);
+    feed_refused(NULL, 0, 0, CRASHLOG_BAD_PIECE);
+    finish_refused(enough - 1, CRASHLOG_BAD_PIECE);
+    finish_refused(0, CRASHLOG_BAD_PIECE);
+    memset(arrived, 0xaa, sizeof arrived);
+    EXPECT(feed(rest, 1, enough) == CRASHLOG_DONE && count == 0 && table_untouched());
+    EXPECT(feed(rest, 1, enough + 9) == CRASHLOG_DONE && count == 1 && arrived[CRASHLOG_SPAN_OFFSET] == 8);
+    EXPECT(finish(enough) == CRASHLOG_DONE && told_listing(0, 2, 0, 1, CRASHLOG_STOP_END_OF_INPUT));
+    refuses_all();
+
+    /* the longest region, and a byte more */
+    start_midway();
+    for (uint64_t taken = 14; taken < CRASHLOG_MOST_BYTES;) {
+        uint64_t left = CRASHLOG_MOST_BYTES - taken, length = left < sizeof zeros - 1 ? left : sizeof zeros - 1;
+        if (left < length + 64)
+            feed_refused(zeros, 0, enough - 1, CRASHLOG_BAD_PIECE);
+        EXPECT(feed(zeros, length, enough) == CRASHLOG_DONE);
+        taken += length;
+    }
+    EXPECT(feed(NULL, 0, enough) == CRASHLOG_DONE && count == 0);
+    feed_refused(zeros, sizeof zeros, enough, CRASHLOG_BAD_PIECE);
+    feed_refused(zeros, 1, enough - 1, CRASHLOG_BAD_PIECE);
+    crashlog_receiver full = receiver;
+    EXPECT(finish(enough) == CRASHLOG_DONE && told_listing(0, 3, 0, 1, CRASHLOG_STOP_ZERO_WORD));
+    refuses_all();
+    receiver = full;
+    feed_refused(zeros, 1, enough, CRASHLOG_TOO_LONG);
+    refuses_all();
+    start_refused();
+    refuses_all();
+    start_midway(); /* goes on as new */
+}
+
+/* What a receiver has told of a region. */
+static uint32_t gathered[300 * CRASHLOG_SPAN_WORDS];
+static uint64_t told_rows;
+
+/* Takes the rows that a call told from the table; the row after them is untouched. */
+static void gather(uint64_t rows)
+{
+    uint64_t numbers = rows * CRASHLOG_SPAN_WORDS, row_bytes = CRASHLOG_SPAN_WORDS * sizeof arrived[0];
+
+    EXPECT((told_rows + rows) * CRASHLOG_SPAN_WORDS <= sizeof gathered / sizeof gathered[0]);
+    memcpy(gathered + told_rows * CRASHLOG_SPAN_WORDS, arrived, rows * row_bytes);
+    EXPECT(all((const uint8_t *)(arrived + numbers), row_bytes, 0xaa));
+    memset(arrived, 0xaa, rows * row_bytes);
+    told_rows += rows;
+}
+
+/* A record with all its bytes, of which a feed may tell. */
+static int complete(const uint32_t *span)
+{
+    return span[CRASHLOG_SPAN_HELD] == span[CRASHLOG_SPAN_DECLARED];
+}
+
+static int is_box(const uint32_t *span)
+{
+    return (span[CRASHLOG_SPAN_VERSION] >> 24 & 0x3f) == 0x3d || span[CRASHLOG_SPAN_FLAGS] & CRASHLOG_LEGACY_SERVER_BOX;
+}
+
+/* Where a record and its header end. */
+static uint64_t end_of(const uint32_t *span)
+{
+    uint32_t declared = span[CRASHLOG_SPAN_DECLARED], size = span[CRASHLOG_SPAN_HEADER_SIZE];
+
+    return span[CRASHLOG_SPAN_OFFSET] + (uint64_t)(declared < size ? size : declared);
+}
+
+/* The rows on level 0 of the region's listing, and what else a finish must tell. */
+static uint32_t expected[300 * CRASHLOG_SPAN_WORDS];
+static crashlog_listing at_top;
+
+static uint32_t list_top(const uint8_t *region, uint64_t length, const uint32_t *rules, uint64_t rules_len)
+{
+    static uint32_t spans[1500 * CRASHLOG_SPAN_WORDS];
+    uint32_t answer = list(region, length, rules, rules_len, UINT64_MAX, spans, sizeof spans / sizeof spans[0]);
+
+    at_top = listed;
+    at_top.rows = 0;
+    at_top.whole = answer == CRASHLOG_DONE && listed.stop <= CRASHLOG_STOP_DEADBEEF_WORD;
+    for (uint64_t row = 0; row < listed.rows; row++) {
+        const uint32_t *span = spans + row * CRASHLOG_SPAN_WORDS;
+        if (span[CRASHLOG_SPAN_LEVEL] > 0)
+            continue;
+        EXPECT(at_top.rows < sizeof expected / sizeof expected[0] / CRASHLOG_SPAN_WORDS);
+        memcpy(expected + at_top.rows++ * CRASHLOG_SPAN_WORDS, span, CRASHLOG_SPAN_WORDS * sizeof span[0]);
+        if (!complete(span) || (is_box(span) && span[CRASHLOG_SPAN_HELD] < span[CRASHLOG_SPAN_HEADER_SIZE]))
+            at_top.whole = 0;
+    }
+    at_top.tries = at_top.rows + (listed.stop != CRASHLOG_STOP_END_OF_INPUT);
+    return answer;
+}
+
+/*
+ * Receives a region in pieces of these lengths, again and again: each row is told with the piece that completes its record, a
+ * last short one by the finish, and all is what the listing has on level 0.
+ */
+static void receives(const uint8_t *region, uint64_t length, const uint32_t *rules, uint64_t rules_len,
+                     const uint8_t *lengths, size_t lengths_len)
+{
+    uint32_t answer = list_top(region, length, rules, rules_len);
+    uint64_t taken = 0, due = 0, rows = 0;
+
+    memset(&receiver, 0xee, sizeof receiver);
+    memset(arrived, 0xaa, sizeof arrived);
+    told_rows = 0;
+    EXPECT(crashlog_receiver_start(&receiver, rules, rules_len) == CRASHLOG_DONE);
+    for (size_t turn = 0; taken < length; turn++) {
+        uint64_t piece = lengths[turn % lengths_len];
+        if (piece > length - taken)
+            piece = length - taken;
+        EXPECT(feed(region + taken, piece, enough + turn % CRASHLOG_SPAN_WORDS) == CRASHLOG_DONE);
+        taken += piece;
+        for (; rows < at_top.rows && complete(expected + rows * CRASHLOG_SPAN_WORDS); rows++) {
+            uint64_t end = end_of(expected + rows * CRASHLOG_SPAN_WORDS);
+            due = due < end ? end : due; /* a record waits for those before it */
+            if (taken < due)
+                break;
+        }
+        gather(count);
+        EXPECT(told_rows == rows);
+    }
+    EXPECT(finish(enough) == answer);
+    EXPECT(told_listing(at_top.rows - rows, at_top.tries, at_top.bad_type, at_top.whole, at_top.stop));
+    gather(listed.rows);
+    EXPECT(told_rows == at_top.rows && memcmp(gathered, expected, told_rows * CRASHLOG_SPAN_WORDS * sizeof expected[0]) == 0);
+    EXPECT(feed(NULL, 0, enough) == CRASHLOG_NOT_RECEIVING && finish(enough) == CRASHLOG_NOT_RECEIVING);
+    EXPECT(table_untouched());
+}
+
+/* In single bytes; 64 at a time; cut at every byte of the first 64, and with empty pieces; and in some other ways. */
+static void receives_in_all_ways(const uint8_t *region, uint64_t length, const uint32_t *rules, uint64_t rules_len)
+{
+    static const uint8_t ways[][8] = {{1, 1, 1, 1, 1, 1, 1, 1},         {64, 64, 64, 64, 64, 64, 64, 64},
+                                      {0, 0, 64, 0, 1, 63, 0, 2},       {3, 3, 3, 3, 3, 3, 3, 3},
+                                      {7, 1, 28, 4, 60, 5, 31, 13},     {63, 63, 63, 63, 63, 63, 63, 63}};
+
+    for (size_t way = 0; way < sizeof ways / sizeof ways[0]; way++)
+        receives(region, length, rules, rules_len, ways[way], sizeof ways[way]);
+    for (uint8_t first = 1; first < 64 && first < length; first++)
+        receives(region, length, rules, rules_len, (uint8_t[8]){first, 0, 64, 64, 64, 64, 64, 64}, 8);
+}
+
+/* A record of a type with a body of so many bytes, or of a size below its header. Gives its length. */
+static uint64_t put_record(uint8_t *record, uint8_t type, uint8_t record_type, uint64_t length, uint64_t units)
+{
+    for (uint64_t i = 0; i < length; i++)
+        record[i] = next_byte();
+    record[0] |= 1;
+    record[1] = (uint8_t)(0x30 | type), record[2] = 0x12, record[3] = record_type;
+    record[4] = record[16] = (uint8_t)units, record[5] = record[17] = (uint8_t)(units >> 8), record[6] = record[7] = 0;
+    return length;
+}
+
+/* Records of each layout one after the other, complete and below their header, Boxes among them, and each tail. */
+static void received_records(void)
+{
+    static const uint32_t box_rules[] = {0x3f000000, 0x04000000, CRASHLOG_LEGACY_SERVER | CRASHLOG_LEGACY_SERVER_BOX};
+    static const uint8_t types[] = {3, 0x3d, 4};
+    uint8_t region[2048];
+
+    for (uint8_t type = 0; type <= 7; type++)
+        for (size_t tail = 0; tail < sizeof tails / sizeof tails[0]; tail++) {
+            uint64_t length = put_record(region, 1, 3, 12, 3);
+            length += put_record(region + length, type, types[tail % 3], 560, 140);
+            length += put_record(region + length, type, types[tail / 3], 32, tail % 2 ? 8 : 1);
+            memcpy(region + length, tails[tail].bytes, tails[tail].length);
+            length += tails[tail].length;
+            receives_in_all_ways(region, length, NULL, 0);
+            receives_in_all_ways(region, length, box_rules, 3);
+        }
+}
+
+/* A legacy server's record by the last row of a table, in which no other row applies. */
+static void received_under_rules(void)
+{
+    uint32_t rules[3 * CRASHLOG_MOST_RULES];
+    uint8_t region[80];
+
+    put_record(region, 7, 3, sizeof region, 10);
+    for (uint64_t rows = 1; rows <= CRASHLOG_MOST_RULES; rows++) {
+        for (uint64_t row = 0; row < rows; row++)
+            memcpy(rules + 3 * row, (uint32_t[3]){UINT32_MAX, 0, CRASHLOG_LEGACY_GPU}, 3 * sizeof rules[0]);
+        memcpy(rules + 3 * (rows - 1), server_rules, sizeof server_rules);
+        receives(region, sizeof region, rules, 3 * rows, (uint8_t[2]){31, 3}, 2);
+        EXPECT(told_rows > 0 && gathered[CRASHLOG_SPAN_FLAGS] == CRASHLOG_LEGACY_SERVER);
+    }
+}
+
+/* Type 6 with the most status words, which declares 2 bytes, as do most of the records that start in its header. */
+static void received_at_once(void)
+{
+    static const uint32_t rules[] = {0, 0, CRASHLOG_SIZES_IN_BYTES};
+    uint8_t region[600];
+
+    for (size_t i = 0; i < sizeof region; i++)
+        region[i] = (i + 1) % 2;
+    region[1] = 6, region[26] = 0x7f;
+    EXPECT(list_top(region, sizeof region, rules, 3) == CRASHLOG_DONE && at_top.rows > 200);
+    receives_in_all_ways(region, sizeof region, rules, 3);
+    EXPECT(crashlog_receiver_start(&receiver, rules, 3) == CRASHLOG_DONE);
+    for (uint64_t taken = 0; taken < 535; taken += 5)
+        EXPECT(feed(region + taken, 5, enough) == CRASHLOG_DONE && count == 0);
+    EXPECT(feed(region + 535, 64, enough) == CRASHLOG_DONE && count > 200);
+}
+
+/* A number below a bound; once in a while any. */
+static uint64_t mostly_below(uint64_t bound)
+{
+    uint64_t any = 0;
+
+    for (int i = 0; i < 8; i++)
+        any = any << 8 | next_byte();
+    return next_byte() % 32 ? any % bound : any;
+}
+
+/* A receiver of any content, most of it such as a call leaves. */
+static void put_state(void)
+{
+    const uint8_t type = next_byte() % 8, units = next_byte();
+
+    receiver.stage = (uint32_t)(1 + mostly_below(1));
+    receiver.whole = (uint32_t)mostly_below(2);
+    receiver.rule_blocks = mostly_below(9);
+    receiver.rows = mostly_below(6);
+    receiver.offset = receiver.rows * mostly_below(CRASHLOG_MOST_BYTES / 5);
+    receiver.taken = receiver.offset + mostly_below(700);
+    for (size_t row = 0; row < CRASHLOG_MOST_RULES; row++) {
+        receiver.rules[row] = (uint32_t)(next_byte() & 0x3f) << 24;
+        receiver.rules[64 + row] = (uint32_t)(next_byte() & 0x3f) << 24;
+        receiver.rules[128 + row] = next_byte() % 16;
+    }
+    put_record(receiver.kept, type, next_byte() % 64, sizeof receiver.kept, units);
+}
+
+/* Whether a call could have left the receiver so: its numbers fit each other, and no record of what it has kept is all in. */
+static int is_in_use(void)
+{
+    const uint64_t most_declared = 524280, held = receiver.taken - receiver.offset;
+    uint32_t rules[3 * CRASHLOG_MOST_RULES];
+    crashlog_header header;
+
+    if (receiver.stage != 1 || receiver.whole > 1 || receiver.rule_blocks > 8 || receiver.taken > CRASHLOG_MOST_BYTES)
+        return 0;
+    if (receiver.offset > receiver.taken || receiver.rows > receiver.offset ||
+        receiver.offset > receiver.rows * most_declared)
+        return 0;
+    for (size_t row = 0; row < CRASHLOG_MOST_RULES; row++)
+        for (size_t column = 0; column < 3; column++)
+            rules[3 * row + column] = receiver.rules[64 * column + row];
+    uint32_t answer = decode(receiver.kept, held < 536 ? held : 536, rules, 24 * receiver.rule_blocks, &header);
+    return answer != CRASHLOG_DONE || judged.declared == 0 || judged.declared > held;
+}
+
+/* Any content is refused with 13, or is gone on with. */
+static void any_state(void)
+{
+    uint8_t piece[CRASHLOG_MOST_PIECE];
+    crashlog_receiver before;
+    int taken = 0;
+
+    for (int n = 0; n < 20000; n++) {
+        const uint64_t length = next_byte() % (CRASHLOG_MOST_PIECE + 1);
+        for (size_t i = 0; i < sizeof piece; i++)
+            piece[i] = next_byte() % 4 ? 0 : next_byte();
+        put_state();
+        before = receiver;
+        const int used = is_in_use(), fits = before.taken + length <= CRASHLOG_MOST_BYTES;
+        EXPECT(feed(piece, length, enough) == (!used ? CRASHLOG_NOT_RECEIVING : fits ? CRASHLOG_DONE : CRASHLOG_TOO_LONG));
+        if (used && fits) {
+            EXPECT(count < CRASHLOG_LEAST_ROOM && receiver.taken == before.taken + length && is_in_use());
+            taken++;
+        } else {
+            EXPECT(count == 0 && memcmp(receiver.kept, before.kept, sizeof before.kept) == 0);
+            EXPECT(receiver.taken == before.taken && receiver.stage == (used ? 0 : before.stage));
+        }
+        receiver = before;
+        EXPECT((finish(enough) == CRASHLOG_NOT_RECEIVING) == !used && listed.rows <= 1);
+        EXPECT(receiver.stage == (used ? 0 : before.stage));
+    }
+    EXPECT(taken > 5000);
+}
+
+static void receivers(void)
+{
+    unstarted();
+    spoiled();
+    in_use();
+    any_state();
+    for (size_t i = 0; i < sizeof tails / sizeof tails[0]; i++)
+        receives_in_all_ways(tails[i].bytes, tails[i].length, NULL, 0);
+    for (size_t i = 0; i < sizeof contents / sizeof contents[0]; i++)
+        receives_in_all_ways(contents[i].bytes, contents[i].length, NULL, 0);
+    received_records();
+    received_under_rules();
+    received_at_once();
+}
+
 /* Two sections, of which the second lies past the end of the input. */
 static void cpers(void)
 {
@@ -637,6 +1067,7 @@ int main(void)
     wholes();
     rooms();
     origins();
+    receivers();
     cpers();
     names();
     intel_rules();

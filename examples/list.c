@@ -6,50 +6,14 @@
  *
  * ROWS is the room for rows and TRIES the limit on header tries; by default there is enough of both.
  */
-#include <inttypes.h>
 #include <stdio.h>
 #include <stdlib.h>
 
 #include "crashlog.h"
+#include "rows.h"
 
 /* One byte over the limit, so that a file that is too long is told from one that just fits. */
 static uint8_t region[CRASHLOG_MOST_BYTES + 1];
-
-static void print_die(uint32_t die)
-{
-    if (die == CRASHLOG_NO_DIE)
-        printf("-");
-    else
-        printf("%" PRIu32, die);
-}
-
-static void print_row(const uint32_t *span)
-{
-    uint8_t name[16];
-    uint32_t record_type = span[CRASHLOG_SPAN_VERSION] >> 24 & 0x3f;
-    uint32_t length = crashlog_name(record_type, name, sizeof name);
-
-    printf("%" PRIu32 " %" PRIu32 " %" PRIu32 " %" PRIu32 " %" PRIu32 " %08" PRIx32 " %" PRIu32 " ",
-           span[CRASHLOG_SPAN_LEVEL], span[CRASHLOG_SPAN_OFFSET], span[CRASHLOG_SPAN_HELD],
-           span[CRASHLOG_SPAN_DECLARED], span[CRASHLOG_SPAN_HEADER_SIZE], span[CRASHLOG_SPAN_VERSION],
-           span[CRASHLOG_SPAN_SOCKET]);
-    print_die(span[CRASHLOG_SPAN_DIE]);
-    printf(" %.*s\n", (int)length, (const char *)name);
-}
-
-static const char *words_of(uint64_t stop)
-{
-    switch (stop) {
-    case CRASHLOG_STOP_UNTOLD: return "untold";
-    case CRASHLOG_STOP_END_OF_INPUT: return "end of input";
-    case CRASHLOG_STOP_ZERO_WORD: return "zero word";
-    case CRASHLOG_STOP_DEADBEEF_WORD: return "0xdeadbeef word";
-    case CRASHLOG_STOP_FEW_BYTES: return "fewer than 4 bytes";
-    case CRASHLOG_STOP_BAD_HEADER: return "bad header";
-    case CRASHLOG_STOP_SIZE_ZERO: return "size zero";
-    default: return "unknown";
-    }
-}
 
 int main(int argc, char **argv)
 {
@@ -70,12 +34,9 @@ int main(int argc, char **argv)
     crashlog_listing told;
     uint32_t answer = crashlog_list(region, length, NULL, 0, tries, spans, rows * CRASHLOG_SPAN_WORDS, &told);
 
-    printf("level offset held declared header version socket die name\n");
-    for (uint64_t row = 0; row < told.rows; row++)
-        print_row(spans + row * CRASHLOG_SPAN_WORDS);
-    printf("rows %" PRIu64 " tries %" PRIu64 " whole %s answer %" PRIu32 "\n",
-           told.rows, told.tries, told.whole ? "yes" : "no", answer);
-    printf("stop: %s\n", words_of(told.stop));
+    print_heading();
+    print_rows(spans, told.rows);
+    print_told(answer, told.rows, &told);
     free(spans);
     return 0;
 }

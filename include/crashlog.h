@@ -1,31 +1,34 @@
 /*
  * crashlog.h: read Intel Crash Logs.
  *
- * Eight functions. crashlog_list walks a region and lists its records, with the records that lie inside Box records.
- * crashlog_decode reads one record header, crashlog_encode writes one. crashlog_sections, crashlog_section and
- * crashlog_normalise read a CPER (UEFI's Common Platform Error Record) and write its normal form. crashlog_name names a
- * record type. crashlog_intel_rules writes Intel's errata as a rule table. Link with libcrashlog.a, which is for x86-64
- * Linux.
+ * Eleven functions. crashlog_list walks a region and lists its records, with the records that lie inside Box records.
+ * crashlog_receiver_start, crashlog_receiver_feed and crashlog_receiver_finish list a region while it comes in, piece by
+ * piece, without the records inside. crashlog_decode reads one record header, crashlog_encode writes one. crashlog_sections,
+ * crashlog_section and crashlog_normalise read a CPER (UEFI's Common Platform Error Record) and write its normal form.
+ * crashlog_name names a record type. crashlog_intel_rules writes Intel's errata as a rule table. Link with libcrashlog.a,
+ * which is for x86-64 Linux.
  *
  * What holds of every function
  *
- * - It reads and writes only what the caller lends, for as long as the call lasts. It allocates nothing, keeps no state and
- *   no pointer, opens no file, never blocks, and always returns. Calls may run on several threads at once, as long as nothing
- *   that one of them writes is lent to another.
+ * - It reads and writes only what the caller lends, for as long as the call lasts. It allocates nothing, keeps no pointer and
+ *   no state but in a receiver that is lent to it, opens no file, never blocks, and always returns. Calls may run on several
+ *   threads at once, as long as nothing that one of them writes is lent to another.
  * - It takes pointers, uint32_t and uint64_t, and returns a uint32_t: its answer, one of the numbers below (crashlog_name and
- *   crashlog_intel_rules: a length). What else it tells goes to the lent struct, or uint64_t, that is its last parameter.
- *   Every call writes that whole, with any answer: 0 where there is nothing to tell.
+ *   crashlog_intel_rules: a length). What else it tells goes to the lent struct, or uint64_t, that is its last parameter
+ *   (crashlog_receiver_start tells nothing else). Every call writes that whole, with any answer: 0 where there is nothing to
+ *   tell.
  * - A length is a uint64_t and counts elements, not bytes: of bytes for uint8_t, of numbers for uint32_t. A pointer with
  *   length 0 may be null.
  * - These are the caller's to ensure, since no function can detect them: a pointer with a length above 0 is not null, and has
  *   that many elements; a pointer without a length is not null; a table of uint32_t is aligned to 4 bytes, a struct and a
- *   uint64_t to 8; and what is written, by the last parameter too, overlaps nothing else that the call is lent.
+ *   uint64_t to 8; and what is written, a receiver and what is told too, overlaps nothing else that the call is lent.
  * - Numbers in the input are little-endian, as the formats have them. Numbers in tables and structs are in the machine's own
  *   byte order: convert them before sending them to another machine.
- * - Any bytes are good input. What is wrong with them is told by the answer.
+ * - Any bytes are good input, in a receiver too. What is wrong with them is told by the answer.
  * - On a refusal nothing that was lent has changed but the last parameter, save with CRASHLOG_SPANS_FULL,
- *   CRASHLOG_TRIES_SPENT and CRASHLOG_SECTIONS_FULL, where the rows told are written. Otherwise only the rows, bytes or header
- *   told have changed besides it; what lies past them in the buffer is as it was.
+ *   CRASHLOG_TRIES_SPENT and CRASHLOG_SECTIONS_FULL, where the rows told are written, and with CRASHLOG_TOO_LONG from
+ *   crashlog_receiver_feed, which shuts the receiver. Otherwise only the rows, bytes or header told, and the receiver, have
+ *   changed besides it; what lies past them in the buffer is as it was.
  *
  * The archive needs two symbols from outside: memcpy and memset. A freestanding program supplies its own.
  *
@@ -49,6 +52,31 @@
  *         if (answer != CRASHLOG_DONE)
  *             printf("answer %" PRIu32 "\n", answer);
  *     }
+ *
+ * And while the region comes in, from a line that gives up to 64 bytes at a time and a negative number at its end
+ *
+ *     static crashlog_receiver receiver;
+ *     static uint32_t arrived[CRASHLOG_RECEIVER_SPAN_WORDS];
+ *
+ *     void print_arriving(int (*next_piece)(uint8_t *piece))
+ *     {
+ *         const uint64_t words = CRASHLOG_RECEIVER_SPAN_WORDS;
+ *         uint8_t piece[CRASHLOG_MOST_PIECE];
+ *         uint64_t rows;
+ *         crashlog_listing told = {0};
+ *         uint32_t answer = crashlog_receiver_start(&receiver, NULL, 0);
+ *         for (int got; answer == CRASHLOG_DONE && (got = next_piece(piece)) >= 0;) {
+ *             answer = crashlog_receiver_feed(&receiver, piece, (uint64_t)got, arrived, words, &rows);
+ *             for (uint64_t row = 0; row < rows; row++)
+ *                 printf("all of that at %" PRIu32 "\n", arrived[row * CRASHLOG_SPAN_WORDS + CRASHLOG_SPAN_OFFSET]);
+ *         }
+ *         if (answer == CRASHLOG_DONE)
+ *             answer = crashlog_receiver_finish(&receiver, arrived, words, &told);
+ *         if (told.rows > 0)
+ *             printf("a part of that at %" PRIu32 "\n", arrived[CRASHLOG_SPAN_OFFSET]);
+ *         if (answer != CRASHLOG_DONE)
+ *             printf("answer %" PRIu32 "\n", answer);
+ *     }
  */
 #ifndef CRASHLOG_H
 #define CRASHLOG_H
@@ -64,20 +92,22 @@ extern "C" {
 #define CRASHLOG_INTERFACE_VERSION 4
 
 /* The answers. Each function's comment says which of them it gives. */
-#define CRASHLOG_DONE 0          /* none of the below */
-#define CRASHLOG_TOO_LONG 1      /* a region or a CPER over CRASHLOG_MOST_BYTES */
-#define CRASHLOG_BAD_RULES 2     /* a rule table not in whole rows, over CRASHLOG_MOST_RULES rows, or a flag number above 15 */
-#define CRASHLOG_BAD_HEADER 3    /* the header lacks bytes that it needs */
-#define CRASHLOG_BAD_TYPE 4      /* its header type is 7 to 15, and no rule makes it a legacy header; the type is told */
-#define CRASHLOG_EMPTY_REGION 5  /* no record was found */
-#define CRASHLOG_SPANS_FULL 6    /* a record was found and no row was free */
-#define CRASHLOG_TRIES_SPENT 7   /* a header was to be tried and the limit was reached */
-#define CRASHLOG_NOT_CPER 8      /* under 128 bytes, or a signature is wrong */
-#define CRASHLOG_SECTIONS_FULL 9 /* a section was to be kept and no row was free */
-#define CRASHLOG_OUTPUT_SHORT 10 /* the result is longer than the output, or than 4,294,967,295 bytes */
-#define CRASHLOG_BAD_FIELD 11    /* a header that can't be encoded */
-#define CRASHLOG_ENDED 254       /* decode: the records have ended; the ending is told */
-#define CRASHLOG_NONE 255        /* section: there is no such row */
+#define CRASHLOG_DONE 0           /* none of the below */
+#define CRASHLOG_TOO_LONG 1       /* a region, in pieces or not, or a CPER over CRASHLOG_MOST_BYTES */
+#define CRASHLOG_BAD_RULES 2      /* rules not in whole rows, over CRASHLOG_MOST_RULES rows, or with a flag number above 15 */
+#define CRASHLOG_BAD_HEADER 3     /* the header lacks bytes that it needs */
+#define CRASHLOG_BAD_TYPE 4       /* its header type is 7 to 15, and no rule makes it a legacy header; the type is told */
+#define CRASHLOG_EMPTY_REGION 5   /* no record was found */
+#define CRASHLOG_SPANS_FULL 6     /* a record was found and no row was free */
+#define CRASHLOG_TRIES_SPENT 7    /* a header was to be tried and the limit was reached */
+#define CRASHLOG_NOT_CPER 8       /* under 128 bytes, or a signature is wrong */
+#define CRASHLOG_SECTIONS_FULL 9  /* a section was to be kept and no row was free */
+#define CRASHLOG_OUTPUT_SHORT 10  /* the result is longer than the output, or than 4,294,967,295 bytes */
+#define CRASHLOG_BAD_FIELD 11     /* a header that can't be encoded */
+#define CRASHLOG_BAD_PIECE 12     /* a piece over CRASHLOG_MOST_PIECE, or room for under CRASHLOG_LEAST_ROOM rows */
+#define CRASHLOG_NOT_RECEIVING 13 /* a receiver that is shut, or that no call could have left so */
+#define CRASHLOG_ENDED 254        /* decode: the records have ended; the ending is told */
+#define CRASHLOG_NONE 255         /* section: there is no such row */
 
 /* Why a region stopped: `stop` of a listing. 2, 3 and 4 are the endings: `ending` of a decode is one of them. */
 #define CRASHLOG_STOP_UNTOLD 0        /* no reason is told */
@@ -91,6 +121,8 @@ extern "C" {
 /* Limits. */
 #define CRASHLOG_MOST_BYTES 1048576 /* of a region or a CPER */
 #define CRASHLOG_MOST_RULES 64      /* rows of a rule table */
+#define CRASHLOG_MOST_PIECE 64      /* bytes of a piece that a receiver takes */
+#define CRASHLOG_LEAST_ROOM 600     /* rows that the table lent with a receiver must have room for: no call tells more */
 
 /* Tries that are enough for any region of n bytes, under any rules. No listing has more rows than tries. */
 #define CRASHLOG_MOST_TRIES(n) ((uint64_t)5 * (uint64_t)(n))
@@ -126,6 +158,9 @@ extern "C" {
 #define CRASHLOG_NO_PARENT 4294967295u
 #define CRASHLOG_NO_DIE 4294967295u
 
+/* The numbers of a table that has the room that is lent with a receiver. */
+#define CRASHLOG_RECEIVER_SPAN_WORDS (CRASHLOG_LEAST_ROOM * CRASHLOG_SPAN_WORDS)
+
 /* A row of the section table. The room is the table's length divided by CRASHLOG_SECTION_WORDS, rounded down. */
 #define CRASHLOG_SECTION_WORDS 3
 #define CRASHLOG_SECTION_INDEX 0  /* of its descriptor */
@@ -144,6 +179,21 @@ typedef struct {
     uint64_t whole;    /* 1 when the listing is whole, else 0 */
     uint64_t stop;     /* why the region stopped; why a Box in it did is not told */
 } crashlog_listing;
+
+/*
+ * A receiver: what is kept of a region that comes in pieces. The caller lends it to each call; its fields are the library's
+ * own. One with all bytes 0 is shut, as a static one is before its start, and so is one after a finish or CRASHLOG_TOO_LONG.
+ */
+typedef struct {
+    uint64_t taken;       /* bytes taken */
+    uint64_t offset;      /* where the record starts that is waited for */
+    uint64_t rows;        /* records before it */
+    uint64_t rule_blocks; /* rows of the rules, in blocks of eight */
+    uint32_t whole;       /* 1 while the records before it leave the listing whole, else 0 */
+    uint32_t stage;       /* 1 in use, 0 shut */
+    uint32_t rules[192];  /* by columns: 64 masks, 64 wanted numbers, 64 flag numbers */
+    uint8_t kept[536];    /* the first of the bytes that have come from `offset` on; no header is longer */
+} crashlog_receiver;
 
 /* What a header decode tells. The first three are 0 unless the answer is CRASHLOG_DONE. */
 typedef struct {
@@ -206,6 +256,38 @@ typedef struct {
  */
 uint32_t crashlog_list(const uint8_t *region, uint64_t region_len, const uint32_t *rules, uint64_t rules_len, uint64_t limit,
                        uint32_t *spans, uint64_t spans_len, crashlog_listing *told);
+
+/*
+ * Starts a receiver, whatever it held, under a copy of the rules: no byte of its region has come.
+ *
+ * Answers: DONE, BAD_RULES. With BAD_RULES the receiver is as it was.
+ */
+uint32_t crashlog_receiver_start(crashlog_receiver *receiver, const uint32_t *rules, uint64_t rules_len);
+
+/*
+ * Takes the next piece of the region, of 0 to CRASHLOG_MOST_PIECE bytes. *rows is how many records are all in with it, header
+ * and declared bytes, and were not before; their rows are written from the table's start, in the order of the region. A Box
+ * is not opened: every row is on level 0. Once the walk has stopped, at an ending, a bad header or size zero, pieces are taken
+ * and complete no record.
+ *
+ * Answers, in this order: NOT_RECEIVING; BAD_PIECE; TOO_LONG, where the pieces joined would be over CRASHLOG_MOST_BYTES; DONE.
+ * With any but DONE the piece is not taken, *rows is 0, and the table and the receiver are as they were, but that TOO_LONG
+ * shuts the receiver: nothing more is told of that region.
+ */
+uint32_t crashlog_receiver_feed(crashlog_receiver *receiver, const uint8_t *piece, uint64_t piece_len,
+                                uint32_t *spans, uint64_t spans_len, uint64_t *rows);
+
+/*
+ * Ends the region and shuts the receiver. However the region was cut, the rows of the feeds and after them that of this call
+ * are those on level 0 of a listing of the pieces joined. told->tries, told->bad_type, told->whole and told->stop are what
+ * such a listing tells with no Box opened: the headers tried on level 0; and of a Box `whole` asks only that it holds what it
+ * declares, and all of its header. told->rows is how many rows this call wrote, to the table's start: 1 where the last record
+ * has all of its header and not all that it declares, else 0.
+ *
+ * Answers, in this order: NOT_RECEIVING; BAD_PIECE, where the table lacks room; BAD_HEADER, BAD_TYPE, EMPTY_REGION, as
+ * crashlog_list gives them; DONE. With NOT_RECEIVING and BAD_PIECE the table and the receiver are as they were.
+ */
+uint32_t crashlog_receiver_finish(crashlog_receiver *receiver, uint32_t *spans, uint64_t spans_len, crashlog_listing *told);
 
 /*
  * Reads the header at the start of some bytes, of any length.
@@ -285,6 +367,17 @@ CRASHLOG_FIELD(crashlog_listing, tries, 8);
 CRASHLOG_FIELD(crashlog_listing, bad_type, 16);
 CRASHLOG_FIELD(crashlog_listing, whole, 24);
 CRASHLOG_FIELD(crashlog_listing, stop, 32);
+
+CRASHLOG_ALIGNED(crashlog_receiver);
+CRASHLOG_SIZE(crashlog_receiver, 1344);
+CRASHLOG_FIELD(crashlog_receiver, taken, 0);
+CRASHLOG_FIELD(crashlog_receiver, offset, 8);
+CRASHLOG_FIELD(crashlog_receiver, rows, 16);
+CRASHLOG_FIELD(crashlog_receiver, rule_blocks, 24);
+CRASHLOG_FIELD(crashlog_receiver, whole, 32);
+CRASHLOG_FIELD(crashlog_receiver, stage, 36);
+CRASHLOG_FIELD(crashlog_receiver, rules, 40);
+CRASHLOG_FIELD(crashlog_receiver, kept, 808);
 
 CRASHLOG_ALIGNED(crashlog_judged);
 CRASHLOG_SIZE(crashlog_judged, 40);

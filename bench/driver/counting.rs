@@ -1,6 +1,7 @@
 //! Inputs of two lengths each, for bench/count: rules and bytes in one file, as bench/count.c reads them.
 use crate::inputs;
 use crate::listing::{self, REGIONS};
+use crate::receiving;
 use std::fs;
 use std::path::Path;
 
@@ -14,7 +15,7 @@ fn write(file: &Path, rules: &[u32], bytes: &[u8]) {
     fs::write(file, held).unwrap();
 }
 
-/// Writes the inputs, and a list of them: place, call, name, rules, and the rows or sections that the longer one has more.
+/// Writes the inputs, and a list of them: place, call, name, rules, and the rows, sections or pieces that the longer one has more.
 pub fn write_inputs(folder: &Path, tables: &[Vec<u32>]) {
     let mut list = String::new();
     let mut add = |call: &str, name: &str, rules: &[u32], [short, long]: [(Vec<u8>, usize); 2]| {
@@ -39,5 +40,11 @@ pub fn write_inputs(folder: &Path, tables: &[Vec<u32>]) {
         (inputs::cper(sections, length), sections)
     });
     add("normalise", "sections of 32 bytes", &[], made);
+    for (name, make, _) in receiving::REGIONS {
+        for rules in &tables[..2] {
+            let made = [SHORT, LONG].map(|length| (make(length), length / receiving::PIECE));
+            add("receive", &format!("received: {name}"), rules, made);
+        }
+    }
     fs::write(folder.join("list"), list).unwrap();
 }

@@ -85,9 +85,23 @@ pub fn eight_bytes_differing(len: usize) -> Vec<u8> {
     filled(len, |i| record(version(PUNIT, PRODUCT + i as u32 % 1024, 1, 1), 8, &mut chance))
 }
 
-pub fn four_kib(len: usize) -> Vec<u8> {
+/// Records with headers of type 2, of so many bytes.
+fn stamped(size: usize, len: usize) -> Vec<u8> {
     let mut chance = Chance::new(3);
-    filled(len, |_| record(version(PUNIT, PRODUCT, 2, 1), 4096, &mut chance))
+    filled(len, |_| record(version(PUNIT, PRODUCT, 2, 1), size, &mut chance))
+}
+
+/// Nothing but a header.
+pub fn twenty_four_bytes(len: usize) -> Vec<u8> {
+    stamped(24, len)
+}
+
+pub fn sixty_four_bytes(len: usize) -> Vec<u8> {
+    stamped(64, len)
+}
+
+pub fn four_kib(len: usize) -> Vec<u8> {
+    stamped(4096, len)
 }
 
 /// Type 6 headers with eight status words, in records of 96 bytes.

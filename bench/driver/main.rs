@@ -11,6 +11,7 @@ mod inputs;
 mod library;
 mod listing;
 mod normalising;
+mod receiving;
 #[cfg_attr(not(oracle), path = "no_rust.rs")]
 mod rust;
 mod sample;
@@ -23,6 +24,7 @@ mod targets;
 fn main() {
     listing::check_stops();
     listing::check_whole();
+    receiving::check_stops();
     headers::check_endings();
     let rules = library::intel_rules();
     let tables = [Vec::new(), rules.clone(), inputs::padded(&rules, 64)];
@@ -31,9 +33,10 @@ fn main() {
         return counting::write_inputs(folder.as_ref(), &tables);
     }
     let listings = listing::report(&tables);
+    let receptions = receiving::report(&tables[..2]);
     let normal_forms = normalising::report();
     headers::report_decoding(&tables);
     headers::report_encoding(&tables);
     growth::report(&rules);
-    targets::report(&listings, &normal_forms);
+    targets::report(&listings, &receptions, &normal_forms);
 }

@@ -31,6 +31,7 @@ pub const C: &str = "C";
 pub const LIBRARY: &str = "library";
 pub const STANDIN: &str = "Rust";
 pub const PUBLISHED: &str = "published Rust";
+pub const LISTING: &str = "the library's listing";
 
 /// A candidate's name, and its work.
 pub type Candidate<'a> = (&'static str, Box<dyn FnMut() + 'a>);

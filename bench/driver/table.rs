@@ -13,7 +13,7 @@ pub fn row(cells: &[String]) {
 }
 
 /// A median, and its quartiles.
-fn shown(spread: Option<Spread>) -> String {
+pub fn shown(spread: Option<Spread>) -> String {
     spread.map_or(String::new(), |s| format!("{:.2} ({:.2} to {:.2})", s.median, s.low, s.high))
 }
 

@@ -1,6 +1,6 @@
 //! What is aimed at, and the input on which the library comes out worst.
 use crate::rust;
-use crate::sample::{C, LIBRARY, STANDIN, Times};
+use crate::sample::{C, LIBRARY, LISTING, STANDIN, Times};
 use crate::table::{heading, row};
 
 /// The times on one input.
@@ -12,6 +12,9 @@ pub struct Measured {
 /// At most so many times the time of C.
 const MOST_OF_C: f64 = 1.3;
 
+/// At most so many times the time of a listing of the same bytes.
+const MOST_OF_LISTING: f64 = 1.5;
+
 /// At least so many times as fast as the Rust with the same rules.
 const LEAST_OF_RUST_LISTING: f64 = 5.0;
 const LEAST_OF_RUST_NORMALISING: f64 = 2.0;
@@ -21,10 +24,20 @@ fn line(target: String, worst: (f64, &str), met: bool) {
     row(&[target, format!("{:.2}", worst.0), worst.1.into(), met.into()]);
 }
 
+/// The input on which the library takes the most of another's time.
+fn slowest<'a>(measured: &'a [Measured], other: &str) -> (f64, &'a str) {
+    let ratios = measured.iter().map(|m| (m.times.ratio(LIBRARY, other).unwrap().median, m.input.as_str()));
+    ratios.max_by(|a, b| a.0.total_cmp(&b.0)).unwrap()
+}
+
 fn against_c(what: &str, measured: &[Measured]) {
-    let ratios = measured.iter().map(|m| (m.times.ratio(LIBRARY, C).unwrap().median, m.input.as_str()));
-    let worst = ratios.max_by(|a, b| a.0.total_cmp(&b.0)).unwrap();
+    let worst = slowest(measured, C);
     line(format!("{what}: at most {MOST_OF_C} times C"), worst, worst.0 <= MOST_OF_C);
+}
+
+fn against_listing(what: &str, measured: &[Measured]) {
+    let worst = slowest(measured, LISTING);
+    line(format!("{what}: at most {MOST_OF_LISTING} times a listing"), worst, worst.0 <= MOST_OF_LISTING);
 }
 
 fn against_rust(what: &str, least: f64, measured: &[Measured]) {
@@ -33,9 +46,10 @@ fn against_rust(what: &str, least: f64, measured: &[Measured]) {
     line(format!("{what}: at least {least} times as fast as the Rust"), worst, least <= worst.0);
 }
 
-pub fn report(listings: &[Measured], normal_forms: &[Measured]) {
+pub fn report(listings: &[Measured], receptions: &[Measured], normal_forms: &[Measured]) {
     heading("Targets", &["target", "worst", "on", "met"]);
     against_c("listing", listings);
+    against_listing("receiving records of up to 64 bytes", receptions);
     against_c("normalising", normal_forms);
     if rust::PRESENT {
         against_rust("listing", LEAST_OF_RUST_LISTING, listings);

@@ -1,4 +1,5 @@
-/* What the walker, the decoder and the encoder share: the rule table, and what the start of a record tells. */
+/* What the walker, the receiver, the decoder and the encoder share: the rule table, what the start of a record tells, and its
+ * row. */
 #ifndef FRAME_H
 #define FRAME_H
 
@@ -102,6 +103,27 @@ static inline uint32_t judge(const uint8_t *bytes, size_t len, uint32_t word, ui
     frame->size = size;
     frame->declared = ((uint32_t)u16_at(bytes + 4) + u16_at(bytes + 6)) << shift;
     return CRASHLOG_DONE;
+}
+
+static inline void put_span(uint32_t *span, uint32_t level, uint32_t parent, uint32_t offset, uint32_t held,
+                            struct frame frame, uint32_t word, uint32_t flags)
+{
+    span[CRASHLOG_SPAN_LEVEL] = level;
+    span[CRASHLOG_SPAN_PARENT] = parent;
+    span[CRASHLOG_SPAN_OFFSET] = offset;
+    span[CRASHLOG_SPAN_HELD] = held;
+    span[CRASHLOG_SPAN_DECLARED] = frame.declared;
+    span[CRASHLOG_SPAN_HEADER_SIZE] = frame.size;
+    span[CRASHLOG_SPAN_VERSION] = word;
+    span[CRASHLOG_SPAN_SOCKET] = frame.socket;
+    span[CRASHLOG_SPAN_DIE] = frame.die;
+    span[CRASHLOG_SPAN_FLAGS] = flags;
+}
+
+/* Whether a region of a whole listing may stop so: at its end, or at a word 0 or 0xdeadbeef. */
+static inline bool clean(uint32_t stop)
+{
+    return stop <= CRASHLOG_STOP_DEADBEEF_WORD;
 }
 
 #endif

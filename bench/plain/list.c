@@ -18,27 +18,6 @@ struct walk {
     bool whole;
 };
 
-static void put_span(uint32_t *span, uint32_t level, uint32_t parent, uint32_t offset, uint32_t held, struct frame frame,
-                     uint32_t word, uint32_t flags)
-{
-    span[CRASHLOG_SPAN_LEVEL] = level;
-    span[CRASHLOG_SPAN_PARENT] = parent;
-    span[CRASHLOG_SPAN_OFFSET] = offset;
-    span[CRASHLOG_SPAN_HELD] = held;
-    span[CRASHLOG_SPAN_DECLARED] = frame.declared;
-    span[CRASHLOG_SPAN_HEADER_SIZE] = frame.size;
-    span[CRASHLOG_SPAN_VERSION] = word;
-    span[CRASHLOG_SPAN_SOCKET] = frame.socket;
-    span[CRASHLOG_SPAN_DIE] = frame.die;
-    span[CRASHLOG_SPAN_FLAGS] = flags;
-}
-
-/* Whether a region of a whole listing may stop so: at its end, or at a word 0 or 0xdeadbeef. */
-static bool clean(uint32_t stop)
-{
-    return stop <= CRASHLOG_STOP_DEADBEEF_WORD;
-}
-
 /* Gives what stopped it. The flags of the last version word are remembered, as the library does it. */
 static uint32_t walk_region(struct walk *walk, const uint8_t *bytes, size_t len, uint32_t base, uint32_t level,
                             uint32_t parent)

@@ -7,6 +7,13 @@
 uint32_t plain_list(const uint8_t *region, uint64_t region_len, const uint32_t *rules, uint64_t rules_len, uint64_t limit,
                     uint32_t *spans, uint64_t spans_len, crashlog_listing *told);
 
+uint32_t plain_receiver_start(crashlog_receiver *receiver, const uint32_t *rules, uint64_t rules_len);
+
+uint32_t plain_receiver_feed(crashlog_receiver *receiver, const uint8_t *piece, uint64_t piece_len,
+                             uint32_t *spans, uint64_t spans_len, uint64_t *rows);
+
+uint32_t plain_receiver_finish(crashlog_receiver *receiver, uint32_t *spans, uint64_t spans_len, crashlog_listing *told);
+
 uint32_t plain_decode(const uint8_t *bytes, uint64_t bytes_len, const uint32_t *rules, uint64_t rules_len,
                       crashlog_header *header, crashlog_judged *told);
 

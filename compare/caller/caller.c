@@ -7,9 +7,11 @@
  *     0   6 x u64  what the call tells: its answer, then the numbers of its struct in order, then zeros
  *     48  i64      the first byte of the lent buffer, or of the guard space around it, that was changed though it is none of
  *                  those written; no such byte: the lowest number
- *     56  u64      a sum: 1 if the input or the rules were changed, 2 if a number beside the struct was
+ *     56  u64      a sum: 1 if the input or the rules were changed; 2 if a number beside the struct was; of a reception, 4 if
+ *                  a call that is to be refused was not, or was and changed or told something, and 8 if the rows told are more
+ *                  or fewer than the request says
  *
- * Input and rules end where memory ends, so that a read past them is a fault. All numbers are little-endian.
+ * Input, pieces of it and rules end where memory ends, so that a read past them is a fault. All numbers are little-endian.
  */
 #include <string.h>
 #include <sys/mman.h>
@@ -17,12 +19,12 @@
 
 #include "crashlog.h"
 
-enum { HEADERS, ENCODES, LISTINGS, TEXTS, TABLES, SECTIONS, NORMAL_FORMS, NAMES, INTEL_RULES };
+enum { HEADERS, ENCODES, LISTINGS, TEXTS, TABLES, SECTIONS, NORMAL_FORMS, NAMES, INTEL_RULES, RECEPTIONS };
 enum { PAGE = 65536, GUARD = 64, FIXED = 80, FIELD_BYTES = 564, MEGABYTE = 1 << 20, MOST_TOLD = 5 };
 
 static uint8_t batch[32 * MEGABYTE], answers[96 * MEGABYTE];
 static _Alignas(64) uint8_t area[64 * MEGABYTE];
-static _Alignas(PAGE) uint8_t inputs[2 * MEGABYTE + PAGE], tables[PAGE + PAGE];
+static _Alignas(PAGE) uint8_t inputs[2 * MEGABYTE + PAGE], tables[PAGE + PAGE], pieces[PAGE + PAGE];
 
 /* A request taken apart. */
 struct request {
@@ -72,8 +74,39 @@ static struct request request_at(const uint8_t *at)
                              number4(body + 24), number4(body + 28), number8(body + 8), body + FIXED };
 }
 
-/* No two neighbours are equal, and no byte is 0. */
-static uint8_t pattern(size_t at) { return (uint8_t)(at * 61 + 0x5a) | 1; }
+/* What lent buffers hold before a call, from some place on: these bytes again and again. No two neighbours are equal, and none
+ * is 0. */
+static uint8_t pattern[256];
+
+static void set_pattern(void)
+{
+    for (size_t at = 0; at < sizeof pattern; at++)
+        pattern[at] = (uint8_t)(at * 61 + 0x5a) | 1;
+}
+
+/* From one place up to another, or to where the pattern starts anew. */
+static size_t block_of(size_t at, size_t upto)
+{
+    size_t block = sizeof pattern - at % sizeof pattern;
+    return block < upto - at ? block : upto - at;
+}
+
+static void fill(uint8_t *bytes, size_t from, size_t upto)
+{
+    for (size_t at = from; at < upto; at += block_of(at, upto))
+        memcpy(bytes + at, pattern + at % sizeof pattern, block_of(at, upto));
+}
+
+/* The first byte from one place up to another that is not the pattern's, or else the other place. */
+static size_t first_changed(const uint8_t *bytes, size_t from, size_t upto)
+{
+    size_t at = from;
+    while (at < upto && memcmp(bytes + at, pattern + at % sizeof pattern, block_of(at, upto)) == 0)
+        at += block_of(at, upto);
+    while (at < upto && bytes[at] == pattern[at % sizeof pattern])
+        at++;
+    return at;
+}
 
 static size_t lent_bytes(const struct request *asked)
 {
@@ -81,16 +114,21 @@ static size_t lent_bytes(const struct request *asked)
     case HEADERS: return sizeof(crashlog_header);
     case LISTINGS:
     case TABLES:
+    case RECEPTIONS:
     case INTEL_RULES: return 4 * (size_t)asked->room;
     default: return asked->room;
     }
 }
 
-/* The bytes that the request says are written; a header is written with the bytes at its end that hold no field. */
-static int may_change(const struct request *asked, size_t at)
+/* How many bytes of the buffer are written, as the request says; a header is written with the bytes at its end that hold no
+ * field. The rows of a reception are taken out of the table, call by call. */
+static size_t written_bytes(const struct request *asked)
 {
-    size_t written = asked->call == HEADERS && asked->written > 0 ? sizeof(crashlog_header) : asked->written;
-    return at >= GUARD && at < GUARD + written;
+    switch (asked->call) {
+    case HEADERS: return asked->written > 0 ? sizeof(crashlog_header) : 0;
+    case RECEPTIONS: return 0;
+    default: return asked->written;
+    }
 }
 
 /* The input and the rules of a request, each ending where memory ends. */
@@ -116,7 +154,7 @@ static int input_changed(const struct request *asked)
 
 /* How many numbers a call tells besides its answer. */
 static const int told_by[] = { [HEADERS] = 5, [ENCODES] = 1, [LISTINGS] = 5, [TABLES] = 1, [SECTIONS] = 2, [NORMAL_FORMS] = 1,
-                               [NAMES] = 0, [INTEL_RULES] = 0 };
+                               [NAMES] = 0, [INTEL_RULES] = 0, [RECEPTIONS] = 5 };
 
 /* The struct of a call, with a number before it and at least one after it. */
 static uint64_t numbers[1 + MOST_TOLD + 1];
@@ -131,8 +169,116 @@ static int beside_changed(const struct request *asked)
     return 0;
 }
 
+/* A receiver, with guard space around it. */
+static struct {
+    uint8_t before[GUARD];
+    crashlog_receiver receiver;
+    uint8_t after[GUARD];
+} place;
+
+/* The rows that a reception tells, each after the bytes taken by then. */
+static uint8_t received[48 * MEGABYTE];
+static size_t received_bytes;
+static int wrongly_refused;
+
+enum { ROW_BYTES = 4 * CRASHLOG_SPAN_WORDS };
+
+/* Takes the rows that a call told out of the table, and makes it as it was. */
+static void take_rows(const struct request *asked, uint64_t rows, uint32_t taken)
+{
+    if (rows > asked->room / CRASHLOG_SPAN_WORDS || received_bytes + rows * (4 + ROW_BYTES) > sizeof received) {
+        wrongly_refused = 1;
+        return;
+    }
+    for (uint64_t row = 0; row < rows; row++) {
+        memcpy(received + received_bytes, &taken, 4);
+        memcpy(received + received_bytes + 4, area + GUARD + row * ROW_BYTES, ROW_BYTES);
+        received_bytes += 4 + ROW_BYTES;
+    }
+    fill(area, GUARD, GUARD + rows * ROW_BYTES);
+}
+
+/* Whether the receiver is as it was. */
+static int same(const crashlog_receiver *before) { return memcmp(&place.receiver, before, sizeof *before) == 0; }
+
+/* A finish. Where it is refused, nothing changes and nothing is told. */
+static uint32_t finish(const struct request *asked, crashlog_listing *told)
+{
+    static const crashlog_listing nothing;
+    crashlog_receiver before = place.receiver;
+    uint32_t answer = crashlog_receiver_finish(&place.receiver, (uint32_t *)(area + GUARD), asked->room, told);
+    if (answer == CRASHLOG_BAD_PIECE || answer == CRASHLOG_NOT_RECEIVING)
+        wrongly_refused |= !same(&before) || memcmp(told, &nothing, sizeof nothing) != 0;
+    return answer;
+}
+
+/* Feeds a piece of the input. Where it is refused, nothing changes and nothing is told, but that the receiver may be shut. */
+static uint32_t feed(const struct request *asked, uint32_t at, uint32_t length)
+{
+    crashlog_receiver before = place.receiver;
+    uint64_t rows = untold;
+    uint8_t *piece = memcpy(pieces + PAGE - length, input_of(asked) + at, length);
+    uint32_t answer = crashlog_receiver_feed(&place.receiver, piece, length, (uint32_t *)(area + GUARD), asked->room, &rows);
+    if (answer == CRASHLOG_DONE) {
+        take_rows(asked, rows, at + length);
+    } else {
+        if (answer == CRASHLOG_TOO_LONG)
+            before.stage = place.receiver.stage;
+        wrongly_refused |= rows != 0 || !same(&before);
+    }
+    wrongly_refused |= memcmp(piece, input_of(asked) + at, length) != 0;
+    return answer;
+}
+
+/* Whether a start in the midst of a region leaves what a first start left. */
+static int starts_anew(const struct request *asked)
+{
+    const uint8_t piece[] = {1, 0, 0, 0, 1, 0, 0, 0, 1, 0};
+    crashlog_receiver first = place.receiver;
+    uint64_t rows;
+    if (asked->room / CRASHLOG_SPAN_WORDS >= CRASHLOG_LEAST_ROOM) {
+        crashlog_receiver_feed(&place.receiver, piece, sizeof piece, (uint32_t *)(area + GUARD), asked->room, &rows);
+        fill(area, GUARD, GUARD + ROW_BYTES);
+    }
+    return crashlog_receiver_start(&place.receiver, rules_of(asked), asked->rules) == CRASHLOG_DONE && same(&first);
+}
+
+/* Makes the calls of a reception: src/replay.rs says which. Then no call is taken any more. */
+static uint64_t receive(const struct request *asked, crashlog_listing *told)
+{
+    uint8_t *bytes = (uint8_t *)&place;
+    const size_t after = GUARD + sizeof place.receiver;
+    fill(bytes, 0, sizeof place);
+    received_bytes = 0;
+    wrongly_refused = 0;
+    crashlog_receiver before = place.receiver;
+    uint32_t refused = crashlog_receiver_start(&place.receiver, rules_of(asked), asked->rules), at = 0;
+    if (refused != CRASHLOG_DONE)
+        wrongly_refused |= !same(&before);
+    else
+        wrongly_refused |= !starts_anew(asked);
+    for (int turn = 0; refused == CRASHLOG_DONE && at < asked->length; turn = (turn + 1) % 8) {
+        uint32_t length = (uint8_t)(asked->number >> 8 * turn), left = asked->length - at;
+        length = length < left ? length : left;
+        uint32_t answer = feed(asked, at, length);
+        if (answer == CRASHLOG_DONE)
+            at += length;
+        if (length > CRASHLOG_MOST_PIECE)
+            wrongly_refused |= answer != CRASHLOG_BAD_PIECE;
+        else
+            refused = answer;
+    }
+    uint32_t answer = finish(asked, told);
+    crashlog_listing again;
+    take_rows(asked, told->rows, at);
+    if (answer != CRASHLOG_BAD_PIECE)
+        wrongly_refused |= feed(asked, 0, 0) != CRASHLOG_NOT_RECEIVING || finish(asked, &again) != CRASHLOG_NOT_RECEIVING;
+    wrongly_refused |= first_changed(bytes, 0, GUARD) < GUARD || first_changed(bytes, after, sizeof place) < sizeof place;
+    return answer + 256 * (uint64_t)refused;
+}
+
 /* Makes the call of a request. */
-static uint32_t call(const struct request *asked, void *told)
+static uint64_t call(const struct request *asked, void *told)
 {
     const uint8_t *input = input_of(asked);
     const uint32_t *rules = rules_of(asked);
@@ -153,6 +299,7 @@ static uint32_t call(const struct request *asked, void *told)
     case NORMAL_FORMS: return crashlog_normalise(input, asked->length, lent, asked->room, told);
     case NAMES: return crashlog_name((uint32_t)asked->number, lent, asked->room);
     case INTEL_RULES: return crashlog_intel_rules(table, asked->room);
+    case RECEPTIONS: return receive(asked, told);
     default: _exit(3);
     }
 }
@@ -160,31 +307,34 @@ static uint32_t call(const struct request *asked, void *told)
 /* Makes the call of a request; what came of it is put there. */
 static uint8_t *answer(const struct request *asked, uint8_t *to)
 {
-    size_t all = GUARD + lent_bytes(asked) + GUARD;
-    int64_t changed = INT64_MIN;
-    if (all > sizeof area || asked->written > all || asked->length > 2 * MEGABYTE || 4 * asked->rules > PAGE)
+    size_t all = GUARD + lent_bytes(asked) + GUARD, most = asked->call == RECEPTIONS ? sizeof received : all;
+    if (all > sizeof area || asked->written > most || asked->length > 2 * MEGABYTE || 4 * asked->rules > PAGE)
         _exit(4);
     set_input(asked);
-    for (size_t at = 0; at < all; at++)
-        area[at] = pattern(at);
+    fill(area, 0, all);
     for (int at = 0; at < 1 + MOST_TOLD + 1; at++)
         numbers[at] = untold;
     to = put8(to, call(asked, numbers + 1));
-    for (size_t at = all; at-- > 0;)
-        if (!may_change(asked, at) && area[at] != pattern(at))
-            changed = (int64_t)at - GUARD;
+    size_t changed = first_changed(area, 0, GUARD);
+    if (changed == GUARD)
+        changed = first_changed(area, GUARD + written_bytes(asked), all);
     for (int field = 0; field < MOST_TOLD; field++)
         to = put8(to, field < told_by[asked->call] ? numbers[1 + field] : 0);
-    to = put8(to, (uint64_t)changed);
-    to = put8(to, (uint64_t)(input_changed(asked) + 2 * beside_changed(asked)));
-    memcpy(to, area + GUARD, asked->written);
+    to = put8(to, (uint64_t)(changed < all ? (int64_t)changed - GUARD : INT64_MIN));
+    int wrong = input_changed(asked) + 2 * beside_changed(asked);
+    if (asked->call == RECEPTIONS)
+        wrong += 4 * wrongly_refused + 8 * (received_bytes != asked->written);
+    to = put8(to, (uint64_t)wrong);
+    memcpy(to, asked->call == RECEPTIONS ? received : area + GUARD, asked->written);
     return to + asked->written;
 }
 
 int main(void)
 {
     uint8_t size[4];
-    if (mprotect(inputs + 2 * MEGABYTE, PAGE, PROT_NONE) != 0 || mprotect(tables + PAGE, PAGE, PROT_NONE) != 0)
+    set_pattern();
+    if (mprotect(inputs + 2 * MEGABYTE, PAGE, PROT_NONE) != 0 || mprotect(tables + PAGE, PAGE, PROT_NONE) != 0 ||
+        mprotect(pieces + PAGE, PAGE, PROT_NONE) != 0)
         return 1;
     while (take(size, sizeof size) && number4(size) <= sizeof batch && take(batch, number4(size))) {
         uint8_t *to = answers;

@@ -1,6 +1,6 @@
 //! A case: one call, and what must come of it. This is also what the replay's data holds (`vectors`).
 
-use crate::span::{self, NO_DIE};
+use crate::span::{self, NO_DIE, Span};
 use std::fmt::Write;
 use std::rc::Rc;
 
@@ -15,10 +15,11 @@ pub enum Call {
     NormalForms,
     Names,
     IntelRules,
+    Receptions,
 }
 
 /// Where the answer comes from. Why a region stopped and how records ended comes from document 02, by `stops`, and so does
-/// `whole`, by `expected`.
+/// `whole`, by `expected`, and when a receiver tells a row.
 #[derive(Clone, Copy, Debug, PartialEq, Eq)]
 pub enum Source {
     Rust = 1,
@@ -32,14 +33,16 @@ pub struct Case {
     pub call: Call,
     pub source: Source,
     pub rules: Rc<[u32]>,
-    /// The try limit, the row or the record type.
+    /// The try limit, the row, the record type or the lengths of the pieces.
     pub number: u64,
-    /// Elements of the lent buffer: numbers for listings and tables, bytes for encodes, normal forms and names.
+    /// Elements of the lent buffer: numbers for listings, tables and receptions, bytes for encodes, normal forms and names.
     pub room: usize,
     pub input: Rc<[u8]>,
-    /// The answer, then the numbers of what else the call tells, in order.
+    /// The answer, then the numbers of what else the call tells, in order. A reception tells what its finish does; its answer
+    /// has besides, 256 times, that of the start or the piece which was refused and ended it.
     pub told: [u64; 6],
-    /// What the call leaves at the start of the lent buffer; the rest is as it was.
+    /// What the call leaves at the start of the lent buffer; the rest is as it was. Of a reception the rows that its calls
+    /// tell, each with the bytes taken by then before it.
     pub written: Vec<u8>,
 }
 
@@ -69,21 +72,28 @@ impl Case {
 
     /// Why the region stopped, or how the records ended, by its number; other calls tell neither.
     pub fn stop(&self) -> Option<u64> {
-        matches!(self.call, Call::Listings | Call::Headers).then_some(self.told[5])
+        matches!(self.call, Call::Listings | Call::Headers | Call::Receptions).then_some(self.told[5])
     }
 
     /// Whether the listing is whole, where the answer is 0.
     pub fn whole(&self) -> Option<bool> {
-        (self.call == Call::Listings && self.answer() == 0).then_some(self.told[4] == 1)
+        (matches!(self.call, Call::Listings | Call::Receptions) && self.answer() == 0).then_some(self.told[4] == 1)
     }
 
-    /// How many rows a listing writes without a die, and with one.
+    /// The rows that it writes.
+    fn rows(&self) -> Option<Vec<Span>> {
+        match self.call {
+            Call::Listings => Some(span::rows_in(&self.written)),
+            Call::Receptions => Some(span::received_in(&self.written)),
+            _ => None,
+        }
+    }
+
+    /// How many rows it writes without a die, and with one.
     pub fn rows_by_die(&self) -> Option<[u64; 2]> {
-        (self.call == Call::Listings).then(|| {
-            let rows = span::rows_in(&self.written);
-            let with_die = rows.iter().filter(|row| row.die != NO_DIE).count();
-            [rows.len() - with_die, with_die].map(|count| count as u64)
-        })
+        let rows = self.rows()?;
+        let with_die = rows.iter().filter(|row| row.die != NO_DIE).count();
+        Some([rows.len() - with_die, with_die].map(|count| count as u64))
     }
 
     /// The case as text, with its whole input.

@@ -20,10 +20,14 @@ pub const NOT_CPER: u64 = 8;
 pub const SECTIONS_FULL: u64 = 9;
 pub const OUTPUT_SHORT: u64 = 10;
 pub const BAD_FIELD: u64 = 11;
+pub const BAD_PIECE: u64 = 12;
+pub const NOT_RECEIVING: u64 = 13;
 pub const ENDED: u64 = 254;
 pub const NONE: u64 = 255;
 
 pub const MOST_BYTES: usize = 1_048_576;
+pub const MOST_PIECE: usize = 64;
+pub const LEAST_ROOM: usize = 600;
 
 /// Whole rows, at most 64 of them, no flag number above 15.
 pub fn good_rules(rules: &[u32]) -> bool {
@@ -120,6 +124,73 @@ fn is_whole(walk: &Walk) -> bool {
     let full = walk.steps.iter().flatten().all(|row| row.held == row.declared);
     let clean = |stop: &u64| matches!(*stop, stops::END_OF_INPUT | stops::ZERO_WORD | stops::DEADBEEF_WORD);
     full && walk.stops.iter().all(clean) && walk.unopened == 0
+}
+
+/// What a reception's answer has added for a refusal that ended its pieces.
+pub fn ended_by(refusal: u64) -> u64 {
+    256 * refusal
+}
+
+/// A region received in pieces of these lengths, again and again, with a table of `room` numbers (document 02, C-11): its rows,
+/// as the Rust finds them in the bytes that are taken, each told once it and its header, and all before it, are in.
+pub fn reception(rules: &Rc<[u32]>, region: &Rc<[u8]>, lengths: [u8; 8], room: usize) -> Case {
+    let number = u64::from_le_bytes(lengths);
+    let case = Case { rules: rules.clone(), number, room, ..Case::new(Call::Receptions, Source::Paper, region) };
+    if !good_rules(rules) {
+        return case.tell(&[NOT_RECEIVING + ended_by(BAD_RULES)]);
+    }
+    if room / span::WORDS < LEAST_ROOM {
+        return case.tell(&[BAD_PIECE + if region.is_empty() { 0 } else { ended_by(BAD_PIECE) }]);
+    }
+    let (taken, too_long) = taken_after(region.len(), lengths);
+    let end = *taken.last().unwrap();
+    standin::set_rules(rules);
+    let cut = cut(&standin::level_0(&region[..end]), u64::MAX, usize::MAX);
+    let full = cut.rows.iter().filter(|row| row.held == row.declared).count();
+    let mut written = received(&cut.rows[..full], &taken);
+    if too_long {
+        return Case { written: table_bytes(&written), ..case.tell(&[NOT_RECEIVING + ended_by(TOO_LONG)]) };
+    }
+    written.extend(cut.rows[full..].iter().map(|row| told_row(end, row)));
+    let short = (cut.rows.len() - full) as u64;
+    let told = [cut.answer, short, cut.tries, cut.bad_type, cut.whole as u64, cut.stop];
+    Case { source: Source::Rust, written: table_bytes(&written), ..case.tell(&told) }
+}
+
+/// The bytes taken at the start and after each piece that is taken; and whether one made the region too long, which ends it.
+fn taken_after(length: usize, lengths: [u8; 8]) -> (Vec<usize>, bool) {
+    assert!(lengths.iter().any(|length| (1..=MOST_PIECE).contains(&(*length as usize))));
+    let mut taken = vec![0];
+    for asked in lengths.into_iter().cycle() {
+        let at = *taken.last().unwrap();
+        let piece = (asked as usize).min(length - at);
+        if at == length {
+            break;
+        }
+        if piece <= MOST_PIECE && at + piece > MOST_BYTES {
+            return (taken, true);
+        }
+        if piece <= MOST_PIECE {
+            taken.push(at + piece);
+        }
+    }
+    (taken, false)
+}
+
+fn told_row(taken: usize, row: &Span) -> [u32; 1 + span::WORDS] {
+    let mut numbers = [taken as u32; 1 + span::WORDS];
+    numbers[1..].copy_from_slice(&row.numbers());
+    numbers
+}
+
+/// Rows that hold all that they declare, each with the bytes taken when it is told.
+fn received(rows: &[Span], taken: &[usize]) -> Vec<[u32; 1 + span::WORDS]> {
+    let mut due = 0;
+    let told = rows.iter().map(|row| {
+        due = due.max((row.offset + row.declared.max(row.header_size)) as usize);
+        told_row(taken[taken.partition_point(|taken| *taken < due)], row)
+    });
+    told.collect()
 }
 
 /// The dump's text: no rules, 512 rows, 81,920 tries, at most 65,535 bytes.

@@ -46,6 +46,34 @@ struct Attempt {
 
 /// Walks a region from the top, and its children as `get_children` gives them.
 pub fn walk(bytes: &[u8]) -> Walk {
+    let (top, tries, mut walk) = walk_top(bytes);
+    match &top {
+        Some(region) => follow(region, &tries, 0, NO_PARENT, &mut walk),
+        None => walk.steps.extend(tries.iter().map(|_| None)),
+    }
+    walk
+}
+
+/// The level-0 part of that walk: no Box is opened. Of its Boxes those are noted that can't be for their header.
+pub fn level_0(bytes: &[u8]) -> Walk {
+    let (top, tries, mut walk) = walk_top(bytes);
+    if let Some(region) = &top {
+        region.get_children();
+        form::probe::take_tries();
+        walk.unopened = form::probe::take_unopened();
+    }
+    let mut records = top.iter().flat_map(|region| &region.records);
+    for attempt in tries {
+        let record = if attempt.found { records.next() } else { None };
+        walk.steps.push(record.map(|record| span(&record.header, 0, NO_PARENT, attempt.offset, record.data.len())));
+        walk.rows += attempt.found as u32;
+    }
+    assert!(records.next().is_none() && walk.steps.iter().flatten().count() == walk.rows as usize);
+    walk
+}
+
+/// The top region where it has a record, its own tries, and a walk without steps that has how they came out.
+fn walk_top(bytes: &[u8]) -> (Option<Region>, Vec<Attempt>, Walk) {
     form::probe::take_tries();
     let top = Region::from_slice(bytes);
     let start = bytes.as_ptr() as usize;
@@ -62,11 +90,7 @@ pub fn walk(bytes: &[u8]) -> Walk {
     };
     let mut walk = Walk { steps: Vec::new(), rows: 0, outcome, stops: Vec::new(), unopened: 0 };
     note_stop(bytes, &tries, &mut walk);
-    match &top {
-        Ok(region) => follow(region, &tries, 0, NO_PARENT, &mut walk),
-        Err(_) => walk.steps.extend(tries.iter().map(|_| None)),
-    }
-    walk
+    (top.ok(), tries, walk)
 }
 
 /// Notes why a region stopped, whose own tries are given: it is its end exactly where the last of them gave a record.

@@ -21,6 +21,10 @@ pub struct Reply {
     input_changed: bool,
     /// A number beside those that the call tells was changed.
     beside_changed: bool,
+    /// A call of a reception that is to be refused was not, or was and changed or told something.
+    wrongly_refused: bool,
+    /// A reception told more or fewer rows.
+    other_rows: bool,
     pub written: Vec<u8>,
 }
 
@@ -60,6 +64,8 @@ impl Library {
             changed: (changed != i64::MIN).then_some(changed),
             input_changed: numbers[7] & 1 != 0,
             beside_changed: numbers[7] & 2 != 0,
+            wrongly_refused: numbers[7] & 4 != 0,
+            other_rows: numbers[7] & 8 != 0,
             written,
         })
     }
@@ -106,6 +112,12 @@ fn judge(case: &Case, reply: &Reply) -> Result<(), String> {
     }
     if reply.beside_changed {
         return Err("it changes a number beside those that it tells".to_string());
+    }
+    if reply.wrongly_refused {
+        return Err("it does not refuse a call, or changes or tells something where it does".to_string());
+    }
+    if reply.other_rows {
+        return Err("it tells more or fewer rows".to_string());
     }
     Ok(())
 }

@@ -23,7 +23,7 @@ mod x86;
 
 use dump::Dump;
 use kinds::published::Published;
-use kinds::{containers, encodes, headers, intel, listings, names, origins};
+use kinds::{containers, encodes, headers, intel, listings, names, origins, receptions};
 use library::Library;
 use random::Random;
 use std::path::Path;
@@ -59,12 +59,13 @@ fn stop(why: &str) -> ! {
 /// The fixed cases, then `count` rounds of random ones; by a seed that is told.
 fn run(mut tally: Tally, dump: &Dump, seed: u64, count: u64) -> ExitCode {
     let mut published = Published::new(&mut tally.library);
-    let fixed: [(&str, fn(&mut Tally)); 7] = [
+    let fixed: [(&str, fn(&mut Tally)); 8] = [
         ("names", names::fixed),
         ("headers", headers::fixed),
         ("encodes", encodes::fixed),
         ("listings", listings::fixed),
         ("sockets and dies", origins::fixed),
+        ("receptions", receptions::fixed),
         ("CPERs", containers::fixed),
         ("Intel's rules", intel::fixed),
     ];
@@ -81,6 +82,7 @@ fn run(mut tally: Tally, dump: &Dump, seed: u64, count: u64) -> ExitCode {
         headers::round(&mut tally, &mut random);
         encodes::round(&mut tally, &mut random);
         listings::round(&mut tally, &mut random);
+        receptions::round(&mut tally, &mut random);
         containers::round(&mut tally, &mut random);
         published.round(&mut tally, &mut random);
         if (round + 1) % count.div_ceil(10) == 0 {

@@ -3,13 +3,20 @@
 //!     0   u32      bytes of the rest of the case
 //!     4   u32      source of the answer
 //!     8   u32      numbers of the rule table
-//!     12  u64      the try limit, the row or the record type
+//!     12  u64      the try limit, the row, the record type or, a byte each, the lengths of a reception's pieces
 //!     20  u32      room
 //!     24  u32      length of the input
 //!     28  u32      bytes of the input that are stored: the input is these, again and again
-//!     32  u32      bytes that the call leaves at the start of the lent buffer
+//!     32  u32      bytes that the call leaves at the start of the lent buffer, or of the rows that a reception tells
 //!     36  6 x u64  what the call tells: its answer, then the numbers of its struct in order, then zeros
 //!     84  the rules, the stored input, the bytes left
+//!
+//! A reception is a start under the rules of a receiver that is shut, pieces of the input, and a finish, with a table of so much
+//! room. A piece has the next of the eight lengths, the lowest byte first and these again and again, but no more than is left of
+//! the input; where nothing is left, there is none. One over 64 bytes is refused with 12, and the next is fed in its place. Any
+//! other refusal, and one of the start, ends the pieces. What is told is what the finish tells, and its answer has 256 times the
+//! refusal that ended the pieces added. The rows have 44 bytes: the bytes taken by the end of the call that told it, 4, then its
+//! ten numbers.
 
 use crate::case::Case;
 

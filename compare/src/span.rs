@@ -37,9 +37,17 @@ impl Span {
     }
 }
 
+fn row_in(bytes: &[u8]) -> Span {
+    let number = |bytes: &[u8]| u32::from_le_bytes(bytes.try_into().unwrap());
+    Span::of(std::array::from_fn(|at| number(&bytes[4 * at..4 * at + 4])))
+}
+
 /// The rows that the bytes of a table hold.
 pub fn rows_in(table: &[u8]) -> Vec<Span> {
-    let number = |bytes: &[u8]| u32::from_le_bytes(bytes.try_into().unwrap());
-    let row = |bytes: &[u8]| Span::of(std::array::from_fn(|at| number(&bytes[4 * at..4 * at + 4])));
-    table.chunks_exact(4 * WORDS).map(row).collect()
+    table.chunks_exact(4 * WORDS).map(row_in).collect()
+}
+
+/// The same where a number stands before each row.
+pub fn received_in(rows: &[u8]) -> Vec<Span> {
+    rows.chunks_exact(4 * (1 + WORDS)).map(|row| row_in(&row[4..])).collect()
 }

@@ -2,6 +2,7 @@
 
 pub mod cpers;
 pub mod damage;
+pub mod pieces;
 pub mod regions;
 pub mod rule_tables;
 pub mod words;

@@ -125,6 +125,17 @@ pub fn small_record(record_type: u32, declared: usize) -> Vec<u8> {
     bytes
 }
 
+/// A header of the most bytes, 536, in a region of 604 that has nothing but records of a word after its own: most of them start
+/// inside the header.
+pub fn largest_header(record_type: u32, declared: usize) -> Vec<u8> {
+    let mut bytes = word(1, 6, 0x123, record_type).to_le_bytes().to_vec();
+    bytes.extend([1, 0, 0, 0].repeat(150));
+    bytes[20] = 2; // the record before it has two words, so that none has the count of status words for its size
+    bytes[26] = 0x7f;
+    put_sizes(&mut bytes, 0, declared);
+    bytes
+}
+
 /// A region of `length` bytes made of one record again and again.
 pub fn repeated(record: &[u8], length: usize) -> Vec<u8> {
     record.iter().copied().cycle().take(length).collect()

@@ -8,3 +8,4 @@ pub mod listings;
 pub mod names;
 pub mod origins;
 pub mod published;
+pub mod receptions;

@@ -3,6 +3,7 @@
 
 mod boundaries;
 mod origins;
+mod receptions;
 mod sample;
 mod stops;
 mod whole;
@@ -17,7 +18,7 @@ use std::{fs, io};
 
 const KIND: &str = "fixed list";
 
-const FILES: [(Call, &str); 8] = [
+const FILES: [(Call, &str); 9] = [
     (Call::Headers, "headers"),
     (Call::Encodes, "encodes"),
     (Call::Listings, "listings"),
@@ -26,6 +27,7 @@ const FILES: [(Call, &str); 8] = [
     (Call::Sections, "sections"),
     (Call::NormalForms, "normal_forms"),
     (Call::Names, "names"),
+    (Call::Receptions, "receptions"),
 ];
 
 pub fn list() -> Vec<Case> {
@@ -34,6 +36,7 @@ pub fn list() -> Vec<Case> {
     cases.extend(stops::list());
     cases.extend(whole::list());
     cases.extend(origins::list());
+    cases.extend(receptions::list());
     cases.extend(sample::list());
     cases
 }

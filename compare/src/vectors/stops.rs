@@ -58,7 +58,7 @@ pub struct Tail {
     /// Whether a listing with a region that stops so may be whole.
     pub whole: bool,
     /// The answer where no record stands before it.
-    alone: u64,
+    pub alone: u64,
 }
 
 pub fn tails() -> Vec<Tail> {

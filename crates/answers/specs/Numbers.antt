@@ -37,6 +37,13 @@ outputShort = 10
 abbrev pub badField : ℕ
 badField = 11
 
+-- document 02, C-11: a piece that is too long, or a table with too little room; a receiver that receives nothing
+abbrev pub badPiece : ℕ
+badPiece = 12
+
+abbrev pub notReceiving : ℕ
+notReceiving = 13
+
 -- document 01 has no number for a header that has ended, nor for a section that is not kept
 abbrev pub ended : ℕ
 ended = 254

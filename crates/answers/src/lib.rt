@@ -25,6 +25,11 @@ pub const OUTPUT_SHORT: u32 = 10;
 
 pub const BAD_FIELD: u32 = 11;
 
+// Document 02, C-11: a piece that is too long, or a table with too little room; a receiver that receives nothing.
+pub const BAD_PIECE: u32 = 12;
+
+pub const NOT_RECEIVING: u32 = 13;
+
 // Document 01 has no number for a header that has ended, nor for a section that is not kept.
 pub const ENDED: u32 = 254;
 

@@ -8,9 +8,7 @@ ghost use Rattle.crashlog.specs.Listing.{listingOut};
 
 pub mod containers;
 pub mod headers;
-
-use header_judge::version::bit_of;
-use region_try::stop::stop_number;
+pub mod receivers;
 
 // The nested listing of a region.
 #[no_mangle]
@@ -25,14 +23,7 @@ pub extern "C" fn crashlog_list(
 {
     let listing = region::list(region, rules, limit, spans);
     let answer = listing.answer;
-    let stop = listing.stop;
-    *told = [
-        listing.rows as u64,
-        listing.tries,
-        region::type_of(answer) as u64,
-        bit_of(listing.whole) as u64,
-        stop_number(stop) as u64,
-    ];
+    *told = region::listing_told(listing);
     region::number_of(answer)
 }
 

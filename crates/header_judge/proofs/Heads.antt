@@ -1,6 +1,7 @@
 -- The header by its parts: what it is, from its word and its size.
 -- By the tests of the definition, in their order. Assumes nothing.
-use mathlib.Core.Path.{_≡_, refl, sym, _∙_}
+use mathlib.Core.Path.{_≡_, refl, sym, ap, _∙_}
+use mathlib.Core.Logic.{_⊎_, ⊎-elim}
 use mathlib.Core.Bool.{Bool, true, false, cond}
 use mathlib.Core.List.{List}
 use Prim.Native.Nat.{ℕ, zero, suc, _<_}
@@ -74,3 +75,13 @@ head-known rules bs zero flags e f = head-ended bs 0 flags refl ∙ rw (← e) (
 head-known rules bs (suc n) flags e f =
     let k : flags ≡ flagsOf rules (suc n) = f (λ z. omega arith) in
     rw (← e, k)
+
+-- after a word is looked up, or found to be the last
+pub remembered : (rules : List ℕ) (word last₀ known₀ last known : ℕ) → ((last₀ ≡ noWord → ⊥) → known₀ ≡ flagsOf rules last₀)
+    → ((last ≡ word) × (known ≡ flagsOf rules word)) ⊎ ((word ≡ last₀) × (last ≡ last₀) × (known ≡ known₀))
+    → (last ≡ word) × ((word ≡ noWord → ⊥) → known ≡ flagsOf rules word)
+remembered rules word last₀ known₀ last known f came =
+    ⊎-elim
+    (λ q. (q .0, λ n. q .1))
+    (λ q. (q .1 ∙ sym (q .0), λ n. q .2 ∙ f (λ z. n (q .0 ∙ z)) ∙ ap (flagsOf rules) (sym (q .0))))
+    came

@@ -1,3 +1,4 @@
 pub mod Words
 pub mod Sizes
 pub mod Heads
+pub mod Longer

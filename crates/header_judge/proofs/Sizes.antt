@@ -4,15 +4,16 @@ use mathlib.Core.Path.{_≡_, refl, sym, ap, _∙_}
 use mathlib.Core.Bool.{Bool, true, false, cond, _||_}
 use mathlib.Core.List.{List, [], _∷_}
 use mathlib.Core.Logic.{_⊎_, ⊎-elim, inl, inr}
-use Prim.Native.Nat.{ℕ, zero, suc, _%_, _≤_, _<_}
+use Prim.Native.Nat.{ℕ, zero, suc, _+_, _*_, _%_, _≤_, _<_}
 use native.Mathlib.Omega.{arith}
 use lib.Dec.{ltb, leb}
-use lib.ListN.{length, List·getD-eq-default}
+use lib.ListN.{length, getD, List·getD-eq-default}
 use borrow.Author.Tests.{lt-ltb, le-ltb, ltb-false, leb-true, leb-false}
 use Rattle.le.specs.Le.{le}
+use Rattle.le.proofs.Laws.{le-lt}
 use Rattle.rules.specs.Rules.{has, legacyServer, legacyGpu, sizesInBytes}
 use Rattle.header_judge.specs.Version.{headerType}
-use Rattle.header_judge.specs.Head.{legacy, recordSize, extendedSize, sizesEnd, unit, typeLayout, layoutOf, noSize, lacking, sizeFor, countOf, shapeOf, enough, sizeOf}
+use Rattle.header_judge.specs.Head.{legacy, recordSize, extendedSize, sizesEnd, unit, declaredOf, typeLayout, layoutOf, noSize, lacking, sizeFor, countOf, shapeOf, enough, sizeOf}
 use Rattle.header_judge.specs.Steps.{Measured}
 use Rattle.header_judge.specs.declared.Layout.{Layout}
 use Rattle.header_judge.specs.declared.Layout.the-variants.{Zero, One, Two, Three, Four, Five, Six, LegacyServer, LegacyGpu, Bad}
@@ -33,11 +34,29 @@ module _ (flags : ℕ) where
   pub plain-end : legacy flags ≡ false → sizesEnd flags ≡ 8
   plain-end e = rw e
 
+  pub sizes-most : sizesEnd flags ≤ 18
+  sizes-most = by (legacy flags)
+    where
+      by : (b : Bool) → cond b 18 8 ≤ 18
+      by true = omega arith
+      by false = omega arith
+
   pub unit-one : has flags sizesInBytes ≡ true → unit flags ≡ 1
   unit-one e = rw e
 
   pub unit-four : has flags sizesInBytes ≡ false → unit flags ≡ 4
   unit-four e = rw e
+
+-- a record of bytes declares 524,280 at most
+pub declared-most : (bs : List ℕ) → ((k : ℕ) → getD bs k 0 < 256) → (flags : ℕ) → declaredOf bs flags ≤ 524280
+unfolding declaredOf
+declared-most bs bytes flags = by (legacy flags) (has flags sizesInBytes)
+  where
+    by : (l b : Bool) → (cond l (le 2 bs 16) (le 2 bs 4) + cond l 0 (le 2 bs 6)) * cond b 1 4 ≤ 524280
+    by true true = omega (arith, le-lt bs bytes 16 2)
+    by true false = omega (arith, le-lt bs bytes 16 2)
+    by false true = omega (arith, le-lt bs bytes 4 2, le-lt bs bytes 6 2)
+    by false false = omega (arith, le-lt bs bytes 4 2, le-lt bs bytes 6 2)
 
 -- ---- the count
 
@@ -156,6 +175,9 @@ size-bounds Six count h = inr (omega arith)
 size-bounds LegacyServer count h = inr (omega arith)
 size-bounds LegacyGpu count h = inr (omega arith)
 size-bounds Bad count h = inl refl
+
+pub size-most : (l : Layout) (count : ℕ) → count ≤ 127 → sizeFor l count ≤ 536
+size-most l count h = ⊎-elim (λ none. omega arith) (λ some. some .1) (size-bounds l count h)
 
 -- the size that `sizeOf` finds
 pub measured : (bs : List ℕ) (word flags : ℕ) → Measured bs flags (sizeOf bs word flags)

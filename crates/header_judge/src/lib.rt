@@ -4,7 +4,7 @@ ghost use mathlib.Core.Path.{_≡_};
 ghost use Prim.Native.Nat.{_+_, _*_, _≤_, _<_};
 ghost use lib.ListN.{length};
 ghost use Rattle.header_judge.specs.Steps.{Measured, HeadBounds};
-ghost use Rattle.header_judge.specs.Head.{legacy, recordSize, extendedSize, sizesEnd, unit, declaredOf, countOf, shapeOf, layoutOf, enough, lacking, sizeOf, isBox, summaryOf, headOf};
+ghost use Rattle.header_judge.specs.Head.{legacy, recordSize, extendedSize, sizesEnd, unit, declaredOf, countOf, shapeOf, layoutOf, enough, lacking, sizeOf, isBox, summaryOf, headWith, headOf};
 
 pub mod origin;
 pub mod version;
@@ -239,16 +239,14 @@ pub fn summary_of(s: &[u8], word: u32, flags: u32, declared: usize, size: usize)
     }
 }
 
-// What one try finds.
-pub fn judge(s: &[u8], rules: &[u32]) -> Head
-    ensures { λ r. ⌜ r ≡ headOf (now (rules .entry)) (now (s .entry)) ⌝ }
+// What one try finds, where the header's word and flags are known.
+pub fn judge_with(s: &[u8], word: u32, flags: u32) -> Head
+    ensures { λ r. ⌜ r ≡ headWith (now (s .entry)) word flags ⌝ }
     ensures { λ r. ⌜ HeadBounds r ⌝ }
 {
-    let word = word_of(s);
     if word == NO_WORD {
         return Head::Ended(ending_of(s));
     }
-    let flags = rules::flags(rules, word);
     let size = size_of(s, word, flags);
     if size == NO_SIZE {
         return Head::BadType(word / 256 % 16);
@@ -258,4 +256,13 @@ pub fn judge(s: &[u8], rules: &[u32]) -> Head
     }
     let declared = declared_of(s, flags);
     Head::Record(summary_of(s, word, flags, declared, size))
+}
+
+// What one try finds.
+pub fn judge(s: &[u8], rules: &[u32]) -> Head
+    ensures { λ r. ⌜ r ≡ headOf (now (rules .entry)) (now (s .entry)) ⌝ }
+    ensures { λ r. ⌜ HeadBounds r ⌝ }
+{
+    let word = word_of(s);
+    judge_with(s, word, rules::flags(rules, word))
 }

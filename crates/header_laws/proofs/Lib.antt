@@ -6,6 +6,5 @@ pub mod Done
 pub mod Encoded
 pub mod Version
 pub mod Agree
-pub mod Longer
 pub mod DecodeEncode
 pub mod EncodeDecode

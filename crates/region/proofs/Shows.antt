@@ -16,8 +16,8 @@ use Rattle.rules.specs.Rules.{validOf}
 use Rattle.header_judge.specs.Head.{isBox}
 use Rattle.header_judge.specs.declared.Head.{Head}
 use Rattle.region_rows.specs.declared.Span.{Span}
-use Rattle.region_rows.specs.Rows.{width, top, mostRows, capacity, withSpan, laid}
-use Rattle.region_rows.proofs.Rows.{stored, stored-none, stored-more, stored-laid}
+use Rattle.region_rows.specs.Rows.{width, top, mostRows, capacity, withSpan, laid, stored}
+use Rattle.region_rows.proofs.Rows.{stored-none, stored-more, stored-laid}
 use Rattle.region_try.specs.Stops.{stopBy, badTypeBy, Standing, standingTold, stopOf, badTypeOf}
 use Rattle.region_try.specs.Tries.{Try, none, hit, deepest, regionTries, allTries}
 use Rattle.region_try.specs.Whole.{keepsWhole, allKeepWhole}

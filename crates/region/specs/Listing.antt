@@ -7,9 +7,10 @@ use lib.ListN.{length}
 use Rattle.answers.specs.Numbers as answer
 use Rattle.answers.specs.Numbers.{mostBytes}
 use Rattle.rules.specs.Rules.{validOf}
+use Rattle.header_judge.specs.Version.{bit}
 use Rattle.region_rows.specs.declared.Span.{Span}
 use Rattle.region_rows.specs.Rows.{capacity, laid}
-use Rattle.region_try.specs.Stops.{Standing, standingTold, stopOf, badTypeOf}
+use Rattle.region_try.specs.Stops.{Standing, standingTold, stopOf, badTypeOf, stopNumber}
 use Rattle.region_try.specs.Tries.{Try, none, hit, standsAt, allTries}
 use Rattle.region_try.specs.Whole.{allKeepWhole}
 use Rattle.region_try.specs.declared.Cut.{Cut}
@@ -108,6 +109,10 @@ listingOf rules bytes s =
       whole = wholeOf answer (allTries rules bytes);
       stop = stopOf (standingTold (s .cut) (topStands rules bytes));
     }
+
+-- what is told of it in numbers: rows, tries, the bad type, whether it is whole, and why the top region stopped
+abbrev pub listingTold : Listing → List ℕ
+listingTold l = l .rows ∷ l .tries ∷ typeOf (l .answer) ∷ bit (l .whole) ∷ stopNumber (l .stop) ∷ []
 
 abbrev pub refusal : Answer → Listing
 refusal answer = record { answer = answer; rows = 0; tries = 0; whole = false; stop = Stop.Untold }

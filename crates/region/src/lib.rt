@@ -3,11 +3,13 @@ ghost use mathlib.Core.Path.{_≡_};
 ghost use Prim.Native.Nat.{_*_, _≤_, _<_};
 ghost use lib.ListN.{length};
 ghost use Rattle.region_rows.specs.Rows.{width};
-ghost use Rattle.region.specs.Listing.{numberOf, typeOf, answerWithout, answerOf, refusal, listed};
+ghost use Rattle.region.specs.Listing.{numberOf, typeOf, answerWithout, answerOf, listingTold, refusal, listed};
 use answers::MOST_BYTES;
+use header_judge::version::bit_of;
 use region_rows::TOP;
 use region_try::Cut;
 use region_try::stop::Stop;
+use region_try::stop::stop_number;
 use region_walk::DEEPEST;
 
 // What a listing answers.
@@ -48,7 +50,7 @@ fn answer_without(stop: Stop, bad_type: u32) -> Answer
 }
 
 // The answer of a walk.
-fn answer_of(cut: Cut, rows: u32, stop: Stop, bad_type: u32) -> Answer
+pub fn answer_of(cut: Cut, rows: u32, stop: Stop, bad_type: u32) -> Answer
     ensures { λ r. ⌜ r ≡ answerOf cut rows stop «bad_type» ⌝ }
 {
     match cut {
@@ -93,6 +95,21 @@ pub fn type_of(answer: Answer) -> u32
         Answer::SpansFull => 0,
         Answer::TriesSpent => 0,
     }
+}
+
+// What is told of a listing in numbers: rows, tries, the bad type, whether it is whole, and why the top region stopped.
+pub fn listing_told(listing: Listing) -> [u64; 5]
+    ensures { λ r. ⌜ r ≡ listingTold listing ⌝ }
+{
+    let answer = listing.answer;
+    let stop = listing.stop;
+    [
+        listing.rows as u64,
+        listing.tries,
+        type_of(answer) as u64,
+        bit_of(listing.whole) as u64,
+        stop_number(stop) as u64,
+    ]
 }
 
 // A refusal before any work.

@@ -8,14 +8,9 @@ use native.Mathlib.Nat.{add-zero, zero-add}
 use lib.ListN.{length, take, drop, getD, length-append, take-append-drop}
 use lib.Seq.{sets, sets-eq, length-sets, take-at, drop-at, drop-drop, length-take-le, getD-append-add}
 use Rattle.region_rows.specs.declared.Span.{Span}
-use Rattle.region_rows.specs.Rows.{numbers, width, from, spanAt, withSpan, spansIn, flat, laid}
+use Rattle.region_rows.specs.Rows.{numbers, width, from, spanAt, withSpan, stored, spansIn, flat, laid}
 
 -- ---- rows that are stored
-
--- rows stored one after the other, from row q on
-unfoldable pub stored : List ℕ → ℕ → List Span → List ℕ
-stored t q [] = t
-stored t q (r ∷ rs) = stored (withSpan t q r) (q + 1) rs
 
 pub stored-none : (t : List ℕ) (q : ℕ) → stored t q [] ≡ t
 unfolding stored

@@ -56,6 +56,11 @@ withSpan t row r = sets t (row * width) (numbers r)
 
 -- ---- several rows
 
+-- a table with rows written one after the other, from one on
+unfoldable pub stored : List ℕ → ℕ → List Span → List ℕ
+stored t row [] = t
+stored t row (r ∷ rs) = stored (withSpan t row r) (row + 1) rs
+
 -- the first n rows
 unfoldable pub spansIn : List ℕ → ℕ → List Span
 spansIn t zero = []

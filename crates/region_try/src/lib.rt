@@ -64,7 +64,7 @@ fn sizeless(word: u32, size: usize) -> Found
 }
 
 // The row of a record, by its place and what its header says; from its start on its region has so many bytes left.
-fn span_of(level: u32, parent: u32, offset: usize, left: usize, summary: Summary) -> Span
+pub fn span_of(level: u32, parent: u32, offset: usize, left: usize, summary: Summary) -> Span
     requires { ⌜ (offset < 2 ^ 32) × (summary .declared ≤ 524280) × (summary .size ≤ 536) ⌝ }
     ensures { λ r. ⌜ r ≡ spanOf level parent offset left summary ⌝ }
 {

@@ -3,7 +3,6 @@
 use mathlib.Core.Path.{_≡_, refl, ap, ap₂, sym, _∙_, subst}
 use mathlib.Core.List.{List, [], _∷_, _++_}
 use mathlib.Core.Bool.{Bool, true, false, _&&_}
-use mathlib.Core.Logic.{_⊎_, ⊎-elim}
 use Prim.Native.Nat.{min, ℕ, _+_, _-_, _≤_, _<_, _^_}
 use native.Mathlib.Omega.{arith}
 use native.Mathlib.Nat.{add-zero}
@@ -321,16 +320,6 @@ module _ {p : Place} {at : ℕ} {t t₁ : List ℕ} {rows tries : ℕ} {f : Foun
       box-cut g = rest-inside p at t rows tries whole (y .deep) (y .within) (seen .row) (seen .is) (from .some) (t₁, more) (t₂, s₂) made-row inside g
 
 -- ---- what the code's calls say
-
--- after a word is looked up, or found to be the last
-pub remembered : (rules : List ℕ) (word last₀ known₀ last known : ℕ) → ((last₀ ≡ noWord → ⊥) → known₀ ≡ flagsOf rules last₀)
-    → ((last ≡ word) × (known ≡ flagsOf rules word)) ⊎ ((word ≡ last₀) × (last ≡ last₀) × (known ≡ known₀))
-    → (last ≡ word) × ((word ≡ noWord → ⊥) → known ≡ flagsOf rules word)
-remembered rules word last₀ known₀ last known f came =
-    ⊎-elim
-    (λ q. (q .0, λ n. q .1))
-    (λ q. (q .1 ∙ sym (q .0), λ n. q .2 ∙ f (λ z. n (q .0 ∙ z)) ∙ ap (flagsOf rules) (sym (q .0))))
-    came
 
 module _ (p : Place) (at word flags : ℕ) where
   -- the try of the code, at the part of the bytes that it is handed

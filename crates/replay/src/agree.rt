@@ -28,6 +28,14 @@ pub fn tells(numbers: [u64; 6], wanted: &[u8]) -> bool {
     same
 }
 
+// An answer and the five numbers that come with it.
+pub fn tells_five(answer: u64, heard: [u64; 5], wanted: &[u8]) -> bool {
+    tells(
+        [answer, heard[0], heard[1], heard[2], heard[3], heard[4]],
+        wanted,
+    )
+}
+
 // Whether a buffer of bytes starts with those wanted and is else untouched.
 pub fn left_bytes(buffer: &[u8], wanted: &[u8]) -> bool {
     let mut same = wanted.len() <= buffer.len();

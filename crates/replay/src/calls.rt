@@ -5,6 +5,7 @@ use crate::agree::UNTOUCHED_LONG;
 use crate::agree::left_bytes;
 use crate::agree::left_words;
 use crate::agree::tells;
+use crate::agree::tells_five;
 use crate::case::bytes_within;
 use crate::case::part;
 use crate::case::words_within;
@@ -28,27 +29,12 @@ fn tells_one(answer: u32, number: u64, told: &[u8]) -> bool {
     tells([answer as u64, number, 0, 0, 0, 0], told)
 }
 
-// An answer and the five numbers that come with it.
-fn tells_five(answer: u32, heard: [u64; 5], told: &[u8]) -> bool {
-    tells(
-        [
-            answer as u64,
-            heard[0],
-            heard[1],
-            heard[2],
-            heard[3],
-            heard[4],
-        ],
-        told,
-    )
-}
-
 pub(crate) fn header(bytes: &[u8], rules: &[u32], told: &[u8], left: &[u8]) -> bool {
     let untouched = [UNTOUCHED; BYTES];
     let mut heard = [UNTOUCHED_LONG; 5];
     let got = decoded(header_in(&untouched), bytes, rules, &mut heard);
     let header = got.header;
-    tells_five(got.answer, heard, told) & left_header(header, left)
+    tells_five(got.answer as u64, heard, told) & left_header(header, left)
 }
 
 pub(crate) fn encode(
@@ -77,7 +63,7 @@ pub(crate) fn listing(
     let lent = words_within(room, spans);
     let mut heard = [UNTOUCHED_LONG; 5];
     let answer = crashlog::crashlog_list(region, rules, limit, &mut spans[..lent], &mut heard);
-    tells_five(answer, heard, told) & left_words(spans, left)
+    tells_five(answer as u64, heard, told) & left_words(spans, left)
 }
 
 pub(crate) fn text(

@@ -1,13 +1,16 @@
 // A case, as bytes. All its numbers are little-endian. In the file the case's size stands before it, in 4 bytes.
 //
-//     0   source: 1 the Rust; 2 cut from the Rust's whole listing; 3 inverse of what the Rust decoded; 4 a sentence of document 01.
-//         Why a region stops, how records end and `whole` come from document 02 in each of them
+//     0   source: 1 the Rust; 2 cut from the Rust's whole listing; 3 inverse of what the Rust decoded; 4 a sentence of document 01, or
+//         of document 02 on what a receiver refuses. Why a region stops, how records end, `whole` and when a row is told come from
+//         document 02 in each of them
 //     4   how many numbers of rule table
-//     8   the limit of a listing, the row of a section, the record type of a name; else 0. 8 bytes
+//     8   the limit of a listing, the row of a section, the record type of a name, a byte for the length of each of eight pieces of a
+//         reception; else 0. 8 bytes
 //     16  the room: how many elements of the lent buffer the call gets
 //     20  length of the input
 //     24  how many bytes of the input are stored; the input is these, repeated from their start up to its length
-//     28  how many bytes the call leaves at the start of the lent buffer; the rest of it is as it was
+//     28  how many bytes the call leaves at the start of the lent buffer, or of rows the calls of a reception tell; the rest of the
+//         buffer is as it was
 //     32  what the call tells: six numbers of 8 bytes, its answer, the numbers that come with it in their order, and then zeros
 //     80  the rules, the stored input, the bytes left
 ghost use Prim.Native.Nat.{_≤_};
@@ -19,6 +22,8 @@ pub const MOST_CASE: usize = 262144;
 pub const MOST_RULES: usize = 256;
 
 pub const MOST_INPUT: usize = 1048577;
+
+const NUMBER: usize = 8;
 
 const TOLD: usize = 32;
 
@@ -59,7 +64,7 @@ pub fn case_of(bytes: &[u8]) -> Case {
     Case {
         source: u32_in(bytes, 0),
         rules: u32_in(bytes, 4) as usize,
-        number: u64_in(bytes, 8),
+        number: u64_in(bytes, NUMBER),
         room: u32_in(bytes, 16) as usize,
         length: u32_in(bytes, 20) as usize,
         stored: u32_in(bytes, 24) as usize,
@@ -130,6 +135,11 @@ pub fn is_sound(bytes: &[u8], case: Case) -> bool {
     is_whole & is_input & is_filled
 }
 
+// The case's number as bytes.
+pub fn lengths_of(bytes: &[u8]) -> &[u8] {
+    part(bytes, NUMBER, 8)
+}
+
 pub fn told_of(bytes: &[u8]) -> &[u8] {
     part(bytes, TOLD, HEAD - TOLD)
 }
@@ -168,7 +178,7 @@ pub fn rules_of(bytes: &[u8]) -> [u32; MOST_RULES] {
 }
 
 // The byte with an index of some bytes that repeat.
-fn repeated(bytes: &[u8], i: usize) -> u8 {
+pub fn repeated(bytes: &[u8], i: usize) -> u8 {
     if bytes.len() == 0 {
         return 0;
     }

@@ -10,6 +10,7 @@ use crate::case::case_of;
 use crate::case::first_words;
 use crate::case::is_sound;
 use crate::case::left_of;
+use crate::case::lengths_of;
 use crate::case::part;
 use crate::case::repeat;
 use crate::case::rules_of;
@@ -23,6 +24,9 @@ mod calls;
 mod case;
 mod header_calls;
 mod header_words;
+mod receiver_calls;
+mod reception;
+mod told_rows;
 
 // More cases than any file has.
 const MOST_CASES: u64 = 65536;
@@ -41,6 +45,7 @@ enum Kind {
     Sections,
     NormalForms,
     Names,
+    Receptions,
 }
 
 // What comes next in a file: a case of so many bytes, a case that is cut off, or its end.
@@ -83,6 +88,10 @@ fn agrees(kind: Kind, bytes: &[u8], case: Case, rules: &[u32], input: &[u8]) -> 
         Kind::Sections => calls::section(input, number, told),
         Kind::NormalForms => calls::normal_form(input, &mut out, room, told, left),
         Kind::Names => calls::name(number, &mut out, room, told, left),
+        Kind::Receptions => {
+            let lengths = lengths_of(bytes);
+            reception::reception(input, rules, lengths, &mut numbers, room, told, left)
+        }
     }
 }
 
@@ -184,7 +193,7 @@ fn print_source(source: u64) {
             io::write_all(STDOUT_FILENO, b"inverse of what the Rust decoded");
         }
         4 => {
-            io::write_all(STDOUT_FILENO, b"a sentence of document 01");
+            io::write_all(STDOUT_FILENO, b"a sentence of document 01 or 02");
         }
         _ => {
             io::write_all(STDOUT_FILENO, b"the case is not sound");
@@ -231,4 +240,5 @@ fn main() {
     replay(Kind::Sections, b"sections");
     replay(Kind::NormalForms, b"normal_forms");
     replay(Kind::Names, b"names");
+    replay(Kind::Receptions, b"receptions");
 }

@@ -10,7 +10,7 @@ use lib.Seq.{drop-drop, drop-append-le}
 use borrow.Author.Tests.{leb-true}
 use Rattle.header_judge.specs.Head.{isBox, headOf}
 use Rattle.header_judge.specs.declared.Head.the-variants.{Record}
-use Rattle.header_laws.proofs.Longer.{head-longer}
+use Rattle.header_judge.proofs.Longer.{head-longer}
 use Rattle.region_rows.specs.declared.Span.{Span}
 use Rattle.region_rows.specs.Rows.{top}
 use Rattle.region_try.specs.Tries.{Try, none, hit, tryOf, deepest, rowsFound, Inside, within, onward, records, boxTries, regionTries, allTries}

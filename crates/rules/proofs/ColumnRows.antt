@@ -1,15 +1,15 @@
 -- The rows of columns, as the code meets them: the first row and those after it, or none; rows without flags; a row stored after some others.
 -- By induction over the rows; a store in one column touches no other. Assumes nothing.
-use mathlib.Core.Path.{_≡_, refl, sym, ap, _∙_}
+use mathlib.Core.Path.{_≡_, refl, sym, ap, subst, _∙_}
 use mathlib.Core.Logic.{_≢_}
-use mathlib.Core.List.{List, [], _∷_, _++_}
-use Prim.Native.Nat.{ℕ, zero, suc, _+_, _-_, _≤_, _<_}
+use mathlib.Core.List.{List, [], _∷_, _++_, append-assoc, append-nil}
+use Prim.Native.Nat.{ℕ, zero, suc, _+_, _-_, _/_, _%_, _≤_, _<_}
 use native.Mathlib.Nat.{zero-add, add-zero}
 use native.Mathlib.Omega.{arith}
 use lib.ListN.{length, getD, set, replicate, length-set}
 use lib.Seq.{getD-set-same, getD-set-other}
-use Rattle.rules.specs.Rules.{rule, applies, withRule, rulesOf, withRules, flagsOf}
-use Rattle.rules.specs.Columns.{rulesFrom, rulesIn, Blank}
+use Rattle.rules.specs.Rules.{Rule, rule, applies, withRule, rulesOf, withRules, flagsOf}
+use Rattle.rules.specs.Columns.{withRow, withRowsFrom, columnsOf, rulesFrom, rulesIn, Blank}
 use Rattle.rules.proofs.Laws.{row-adds-none}
 
 -- ---- rows that are read
@@ -28,7 +28,7 @@ columns-step t at n h = let more : n - at ≡ suc (n - (at + 1)) = omega arith i
 -- ---- rows without flags
 
 -- columns of zeros have none
-pub zero-at : (n i : ℕ) → _≡_ {A = ℕ} (getD (replicate n 0) i 0) 0
+zero-at : (n i : ℕ) → _≡_ {A = ℕ} (getD (replicate n 0) i 0) 0
 zero-at zero i = refl
 zero-at (suc n) zero = refl
 zero-at (suc n) (suc i) = zero-at n i
@@ -58,7 +58,7 @@ blank-flags t word rows end h blank =
 
 -- ---- a row that is stored
 
-pub from-none : (t : List ℕ) (at : ℕ) → rulesFrom t at 0 ≡ []
+from-none : (t : List ℕ) (at : ℕ) → rulesFrom t at 0 ≡ []
 unfolding rulesFrom
 from-none t at = refl
 
@@ -75,27 +75,17 @@ from-last t at (suc n) =
     ap (λ (rs : List ℕ). rowAt t at ++ rs) (from-last t (at + 1) n)
     ∙ ap (λ (i : ℕ). rowAt t at ++ (rulesFrom t (at + 1) n ++ rowAt t i)) e
 
-module _ (t : List ℕ) (at a b c : ℕ) where
-  -- its mask is stored, its wanted number, its flags
-  abbrev one : List ℕ
-  one = set t at a
-
-  abbrev two : List ℕ
-  two = set one (at + 64) b
-
-  abbrev pub stored : List ℕ
-  stored = set two (at + 128) c
-
+module _ (t : List ℕ) (at : ℕ) (r : Rule) where
   -- what stands elsewhere stays
-  elsewhere : (i : ℕ) → i ≢ at → i ≢ at + 64 → i ≢ at + 128 → getD stored i 0 ≡ getD t i 0
+  elsewhere : (i : ℕ) → i ≢ at → i ≢ at + 64 → i ≢ at + 128 → getD (withRow t at r) i 0 ≡ getD t i 0
   elsewhere i f g h =
-      getD-set-other two (at + 128) i c 0 h
-      ∙ getD-set-other one (at + 64) i b 0 g
-      ∙ getD-set-other t at i a 0 f
+      getD-set-other (set (set t at (r .mask)) (at + 64) (r .wanted)) (at + 128) i (r .flags) 0 h
+      ∙ getD-set-other (set t at (r .mask)) (at + 64) i (r .wanted) 0 g
+      ∙ getD-set-other t at i (r .mask) 0 f
 
   module _ (h : at < 64) where
     -- the rows before it
-    earlier : (i n : ℕ) → i + n ≤ at → rulesFrom stored i n ≡ rulesFrom t i n
+    earlier : (i n : ℕ) → i + n ≤ at → rulesFrom (withRow t at r) i n ≡ rulesFrom t i n
     unfolding rulesFrom
     earlier i zero g = refl
     earlier i (suc n) g =
@@ -105,23 +95,64 @@ module _ (t : List ℕ) (at a b c : ℕ) where
         rw (mask, wanted, flags, earlier (i + 1) n (omega arith))
 
     -- the row itself
-    itself : length t ≡ 192 → rowAt stored at ≡ a ∷ b ∷ c ∷ []
+    itself : length t ≡ 192 → rowAt (withRow t at r) at ≡ r .mask ∷ r .wanted ∷ r .flags ∷ []
     itself l =
-        let mask : getD stored at 0 ≡ a =
-        getD-set-other two (at + 128) at c 0 (λ e. omega arith)
-        ∙ getD-set-other one (at + 64) at b 0 (λ e. omega arith)
-        ∙ getD-set-same t at a 0 (omega arith) in
-        let wanted : getD stored (at + 64) 0 ≡ b =
-        getD-set-other two (at + 128) (at + 64) c 0 (λ e. omega arith)
-        ∙ getD-set-same one (at + 64) b 0 (simp length-set (omega arith)) in
-        let flags : getD stored (at + 128) 0 ≡ c = getD-set-same two (at + 128) c 0 (simp length-set (omega arith)) in
+        let one : List ℕ = set t at (r .mask) in
+        let two : List ℕ = set one (at + 64) (r .wanted) in
+        let mask : getD (withRow t at r) at 0 ≡ r .mask =
+        getD-set-other two (at + 128) at (r .flags) 0 (λ e. omega arith)
+        ∙ getD-set-other one (at + 64) at (r .wanted) 0 (λ e. omega arith)
+        ∙ getD-set-same t at (r .mask) 0 (omega arith) in
+        let wanted : getD (withRow t at r) (at + 64) 0 ≡ r .wanted =
+        getD-set-other two (at + 128) (at + 64) (r .flags) 0 (λ e. omega arith)
+        ∙ getD-set-same one (at + 64) (r .wanted) 0 (simp length-set (omega arith)) in
+        let flags : getD (withRow t at r) (at + 128) 0 ≡ r .flags = getD-set-same two (at + 128) (r .flags) 0 (simp length-set (omega arith)) in
         rw (mask, wanted, flags)
 
     -- the flags past it
-    pub past-blank : Blank t at → Blank stored (at + 1)
+    past-blank : Blank t at → Blank (withRow t at r) (at + 1)
     past-blank blank row g = elsewhere (row + 128) (λ e. omega arith) (λ e. omega arith) (λ e. omega arith) ∙ blank row (omega arith)
 
-    pub one-more : length t ≡ 192 → rulesFrom stored 0 (at + 1) ≡ rulesFrom t 0 at ++ (a ∷ b ∷ c ∷ [])
+    one-more : length t ≡ 192 → rulesFrom (withRow t at r) 0 (at + 1) ≡ rulesFrom t 0 at ++ (r .mask ∷ r .wanted ∷ r .flags ∷ [])
     one-more l =
         let n : at + 1 ≡ suc at = omega arith in
-        rw n (from-last stored 0 at ∙ rw (zero-add at, itself l, earlier 0 at (omega arith)))
+        rw n (from-last (withRow t at r) 0 at ∙ rw (zero-add at, itself l, earlier 0 at (omega arith)))
+
+-- ---- several rows that are stored
+
+pub rows-written : (t : List ℕ) (at : ℕ) {rs : List Rule} → rs ≡ [] → withRowsFrom t at rs ≡ t
+unfolding withRowsFrom
+rows-written t at e = ap (λ (rs : List Rule). withRowsFrom t at rs) e
+
+pub row-written : (t : List ℕ) (at : ℕ) {r : Rule} {rs rest : List Rule} → rs ≡ r ∷ rest → withRowsFrom (withRow t at r) (at + 1) rest ≡ withRowsFrom t at rs
+unfolding withRowsFrom
+row-written t at e = sym (ap (λ (rs : List Rule). withRowsFrom t at rs) e)
+
+-- what columns hold whose first rows are known: the rows, and no flag past them
+pub record Holds (t rules : List ℕ) (rows : ℕ) : Type 0 where
+  pub long : length t ≡ 192
+  pub held : rulesIn t rows ≡ rules
+  pub blank : Blank t rows
+
+-- with rows more
+holds-more : (t before : List ℕ) (at : ℕ) (rest : List ℕ) → length rest % 3 ≡ 0 → at + length rest / 3 ≤ 64 → Holds t before at
+    → Holds (withRowsFrom t at (rulesOf rest)) (before ++ rest) (at + length rest / 3)
+unfolding withRowsFrom rulesOf
+holds-more t before at [] d h q = rw (add-zero at, append-nil before) q
+holds-more t before at (_ ∷ []) d h q = absurd (omega arith)
+holds-more t before at (_ ∷ _ ∷ []) d h q = absurd (omega arith)
+holds-more t before at (a ∷ b ∷ c ∷ rest) d h q =
+    let here : at < 64 = omega arith in
+    let next : at + length (a ∷ b ∷ c ∷ rest) / 3 ≡ at + 1 + length rest / 3 = omega arith in
+    let there = holds-more (withRow t at (rule a b c)) (before ++ (a ∷ b ∷ c ∷ [])) (at + 1) rest (omega arith) (omega arith) (record {
+      long = simp length-set (q .long);
+      held = one-more t at (rule a b c) here (q .long) ∙ ap (λ (rs : List ℕ). rs ++ (a ∷ b ∷ c ∷ [])) (q .held);
+      blank = past-blank t at (rule a b c) here (q .blank);
+    }) in
+    subst (λ (n : ℕ). Holds (withRowsFrom t at (rule a b c ∷ rulesOf rest)) (before ++ (a ∷ b ∷ c ∷ rest)) n) (sym next)
+    (subst (λ (rs : List ℕ). Holds (withRowsFrom t at (rule a b c ∷ rulesOf rest)) rs (at + 1 + length rest / 3)) (append-assoc before (a ∷ b ∷ c ∷ []) rest) there)
+
+-- a table of whole rows, at most 64 of them
+pub columns-hold : (rules : List ℕ) → length rules % 3 ≡ 0 → length rules ≤ 192 → Holds (columnsOf rules) rules (length rules / 3)
+columns-hold rules d h =
+    rw (zero-add (length rules / 3)) at (holds-more (replicate 192 0) [] 0 rules d (omega arith) (record { long = refl; held = from-none (replicate 192 0) 0; blank = λ row g. zero-at 192 (row + 128) }))

@@ -8,24 +8,16 @@ use Rattle.crashlog.proofs.crashlog_list.Tie as tie
 
 returns : tie.Need-returns
 returns c =
-    let reasoned = c .before .before in
-    let marked = reasoned .before in
-    let typed = marked .before in
-    let listed = typed .before .before .before .before in
-    rw (typed .type-of .ensures, marked .bit-of .ensures .0, reasoned .stop-number .ensures, c .number-of .ensures .0) (ap listingOut (listed .list .ensures .0))
+    let told = c .before in
+    let listed = told .before .before .before in
+    rw (told .listing-told .ensures, c .number-of .ensures .0) (ap listingOut (listed .list .ensures .0))
 
 pub crashlog-list-spec : {M : Type 1} → statement M
 crashlog-list-spec =
     tie.close
     (tie.spec
     (λ c κs. search needs)
-    (λ c. search needs)
     (λ c κs. search needs)
-    (λ c. search needs)
-    (λ c κs. search needs)
-    (λ c. search needs)
-    (λ c κs. search needs)
-    (λ c. search needs)
     (λ c κs. search needs)
     (λ c. search needs)
     returns)

@@ -3,13 +3,15 @@
 use mathlib.Core.Path.{_≡_, sym, subst, _∙_}
 use mathlib.Core.List.{List}
 use mathlib.Core.Bool.{true, false}
-use Prim.Native.Nat.{ℕ, _*_, _≤_}
+use Prim.Native.Nat.{ℕ, _*_, _/_, _≤_}
 use native.Mathlib.Omega.{arith}
 use borrow.Author.Tests.{not-true, not-false}
 use denote.Ref.{now}
 use lib.ListN.{length}
 use Rattle.rules.specs.Rules.{validOf}
+use Rattle.rules.specs.Columns.{columnsOf, Blank}
 use Rattle.rules.proofs.Laws.{valid-rows}
+use Rattle.rules.proofs.ColumnRows.{Holds, columns-hold}
 use Rattle.region_rows.specs.Rows.{width}
 use Rattle.region.specs.Listing.{listed}
 use Rattle.region.specs.declared.Listing.{Listing}
@@ -47,6 +49,13 @@ good c = sym (c .before .valid .ensures) ∙ not-false (c .before .valid .result
 columns-of-requires : tie.Need-columns-of-requires
 columns-of-requires c κs = valid-rows (now (start (c .before) .args .rules)) (good c)
 
+-- so their columns hold them
+held : (c : tie.Else2) → Holds (columnsOf (now (start (c .before) .args .rules))) (now (start (c .before) .args .rules)) (length (now (start (c .before) .args .rules)) / 3)
+held c =
+    let rules = now (start (c .before) .args .rules) in
+    let rows = valid-rows rules (good c) in
+    columns-hold rules (rows .0) (rows .1)
+
 -- what the walk is lent, from the place of its call
 abbrev bounded : tie.After-region-walk-arg → tie.After-bounds-of
 bounded c = c .before .before .before
@@ -68,7 +77,7 @@ region-walk-requires c κs =
         room = search needs;
         rows = search needs;
         columns = search (needs, v);
-        blank = laid-out bounds .columns-of .ensures .1;
+        blank = subst (λ (t : List ℕ). Blank t (length (now (start (passed .before) .args .rules)) / 3)) (sym (laid-out bounds .columns-of .ensures)) (held passed .blank);
       };
     })
 
@@ -84,7 +93,7 @@ returns-3 c =
     with-fit (now (a .rules)) (now (a .region)) (a .limit) (now (a .spans))
     (rw (c .before .number-of .ensures .0, answered .answer-of .ensures)
     (listed-run (now (a .rules)) (now (a .region)) (a .limit) (now (a .spans)) (omega arith) (good passed) (y .last .1 .1 .1 .1 .1 .1 .1 .1 .1 .0, y .result)
-    (rw (bounds .bounds-of .ensures, bounds .before .room-of .ensures, columns .columns-of .ensures .0) at (y .ensures))))
+    (rw (bounds .bounds-of .ensures, bounds .before .room-of .ensures, columns .columns-of .ensures, held passed .held) at (y .ensures))))
 
 pub list-spec : {M : Type 1} → statement M
 list-spec =

@@ -12,13 +12,14 @@ use borrow.Author.Needs.{needs}
 use denote.Ref.{now}
 use Rattle.basics.proofs.Parts.{tail-part}
 use Rattle.rules.specs.Rules.{flagsOf}
+use Rattle.header_judge.proofs.Heads.{remembered}
 use Rattle.header_judge.specs.Version.{noWord}
 use Rattle.region_try.proofs.Tries.{box-deep, box-short}
 use Rattle.region_try.proofs.Runs.{run-empty}
 use Rattle.region_try.proofs.Whole.{box-shut, box-header, box-opens}
 use Rattle.region_walk.specs.Steps.{limitIn, roomIn, tableIn, going}
 use Rattle.region_walk.specs.declared.Walked.{Walked}
-use Rattle.region_walk.proofs.Turn.{held-fits, child-counts, Place, rest, entire, rest-start, rest-same, rest-end, rest-spent, Tried, tried-at, remembered, stop-turn, full-turn, row-free, row-bounds, row-held, plain-turn, box-turn, box-cut, tag-cut}
+use Rattle.region_walk.proofs.Turn.{held-fits, child-counts, Place, rest, entire, rest-start, rest-same, rest-end, rest-spent, Tried, tried-at, stop-turn, full-turn, row-free, row-bounds, row-held, plain-turn, box-turn, box-cut, tag-cut}
 use borrow.Fn.Kinds.{In, Out}
 use borrow.Fn.PlainCycle.{Measures, is, falls, and}
 use Rattle.region_walk.proofs.box_walk.Reads as box-walk

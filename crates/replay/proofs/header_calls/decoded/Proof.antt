@@ -159,7 +159,7 @@ module _ {M : Type 1} (𝓤 : URA M) (H : Heap 𝓤) (A : Atoms 𝓤) (W : Given
         assigns ! (addr ! (from ! (hop ! (look ! 10 refl) (stop !)))) (from ! (stop !)) (init ! 2 refl (tt, tt)) $
         -- the header in _5 is lent for the lifetime ν
         move ! (21 ∷ []) $ fsplit ! $ lft-new ! tt (λ ν. move ! (11 ∷ 1 ∷ []) $
-        use2 W (later (some (λ (γ : GName). ‵ (MutRef (named 2) (ν ∷ []) R .own (record { ptr = (l₅, 0); name = γ; now = h }) (vptr l₅ 0 ∷ [])) ⊛ ‵ (flent (ν ∷ []) (Body (mem R) l₅ 0 γ))))) (lends 𝓤 H A W l₅ (ν ∷ []) h) $ await ! tt $ pick ! (λ γ. split ! $
+        use2 W (later (some (λ (γ : GName). ‵ (MutRef (named 2) (ν ∷ []) R .own (record { ptr = (l₅, 0); name = γ; now = h }) (vptr l₅ 0 ∷ [])) ⊛ ‵ (flent (ν ∷ []) (Body (mem R) l₅ 0 γ))))) (lends T.the-type T′.the-laws (named 2) 𝓤 H A W l₅ (ν ∷ []) h) $ await ! tt $ pick ! (λ γ. split ! $
         -- [the reference; the lender's part; ν's token; what the other parameters own; the locals; the tokens]
         move ! (23 ∷ []) $ split ! $ move ! (1 ∷ []) $ split ! $ move ! (5 ∷ 1 ∷ []) $ join ! $ move ! (1 ∷ 0 ∷ []) $ join ! $ move ! (1 ∷ 0 ∷ []) $ join ! $
         move ! (3 ∷ []) $ fsplit ! $ move ! (1 ∷ []) $ fsplit ! $ move ! (4 ∷ 1 ∷ []) $ fjoin ! $ move ! (1 ∷ 0 ∷ []) $ fjoin ! $ move ! (1 ∷ 0 ∷ []) $ fjoin ! $ move ! (1 ∷ 0 ∷ []) $
@@ -171,7 +171,7 @@ module _ {M : Type 1} (𝓤 : URA M) (H : Heap 𝓤) (A : Atoms 𝓤) (W : Given
         split ! $ move ! (1 ∷ []) $ drop ! $ fsplit ! $ drop ! $ fsplit ! $ drop ! $ fsplit ! $ move ! (1 ∷ []) $ fsplit ! $ move ! (1 ∷ []) $ drop ! $
         -- [what is told; the last header's name; the tokens and the answer; the lender's part; the locals]
         move ! (2 ∷ []) $ split ! $ split ! $ move ! (1 ∷ []) $ split ! $ move ! (1 ∷ []) $ split ! $ lft-end ! tt $ move ! (0 ∷ 7 ∷ 6 ∷ []) $
-        use3 W (later (‵ (Local l₅ (outs .1 .1 .0)) ⊛ ‵ (R .own (outs .1 .1 .0) (mach (outs .1 .1 .0) ∷ [])))) (back 𝓤 H A W l₅ (ν ∷ []) h γ (outs .1 .1 .0)) $ await ! tt $ split ! $
+        use3 W (later (‵ (Local T.the-type T′.the-laws l₅ (outs .1 .1 .0)) ⊛ ‵ (R .own (outs .1 .1 .0) (mach (outs .1 .1 .0) ∷ [])))) (back T.the-type T′.the-laws (named 2) 𝓤 H A W l₅ (ν ∷ []) h γ (outs .1 .1 .0)) $ await ! tt $ split ! $
         -- [_5; what a header owns; the tokens; what the answer owns; what is told; the locals]
         move ! (5 ∷ []) $ peeks ! u32 (Is u32) (shows 𝓤 H A u32) r (w ∷ []) (λ is.
         land ! (from ! (stop !)) (init ! 13 refl (uint-lawful 𝓤 H A W w32 .typed r _ is .0)) $ rewrite ! 13 (λ (z : Val). ‵ (fat fullShare (tyInt w32) l₆ 0 z)) (ap only (is .0)) refl $

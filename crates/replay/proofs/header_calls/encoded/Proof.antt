@@ -130,7 +130,7 @@ module _ {M : Type 1} (𝓤 : URA M) (H : Heap 𝓤) (A : Atoms 𝓤) (W : Given
         assigns ! (addr ! (from ! (hop ! (look ! 10 refl) (stop !)))) (from ! (stop !)) (init ! 0 refl (tt, tt)) $
         -- the header in _5 is lent for the lifetime ν
         move ! (21 ∷ []) $ fsplit ! $ lft-new ! tt (λ ν. move ! (11 ∷ 1 ∷ []) $
-        use2 W (later (some (λ (γ : GName). ‵ (ShrRef (named 0) (ν ∷ []) R .own (record { ptr = (l₅, 0); name = γ; now = h }) (vptr l₅ 0 ∷ [])) ⊛ ‵ (flent (ν ∷ []) (partAt R fullShare h l₅ 0))))) (shares 𝓤 H A W l₅ (ν ∷ []) h) $ await ! tt $ pick ! (λ γ. split ! $
+        use2 W (later (some (λ (γ : GName). ‵ (ShrRef (named 0) (ν ∷ []) R .own (record { ptr = (l₅, 0); name = γ; now = h }) (vptr l₅ 0 ∷ [])) ⊛ ‵ (flent (ν ∷ []) (partAt R fullShare h l₅ 0))))) (shares T.the-type T′.the-laws (named 0) 𝓤 H A W l₅ (ν ∷ []) h) $ await ! tt $ pick ! (λ γ. split ! $
         -- [the reference; the lender's part; ν's token; what the other parameters own; the locals; the tokens]
         move ! (2 ∷ 23 ∷ []) $ join ! $ move ! (1 ∷ 3 ∷ []) $ fjoin ! $ move ! (1 ∷ 0 ∷ []) $ use2 W (raw (Encode 𝓤 H A at-mem run .pre (to l₅ ν γ))) (asked l₅ ν γ) $
         -- [what crashlog_encode asks; the lender's part; _9; …; _8; …; _7; …; _6; …; what is left of _5; _4; …; _3; …; _2; …; _1; …; room for _0; …]
@@ -140,7 +140,7 @@ module _ {M : Type 1} (𝓤 : URA M) (H : Heap 𝓤) (A : Atoms 𝓤) (W : Given
         split ! $ move ! (1 ∷ []) $ drop ! $ fsplit ! $ drop ! $ fsplit ! $ drop ! $ fsplit ! $ fsplit ! $ move ! (1 ∷ []) $ feqL ! (λ l. move ! (1 ∷ []) $ fsplit ! $ move ! (1 ∷ []) $ drop ! $
         -- [the last length; the last output; the tokens and the answer; the lender's part; the locals]
         move ! (2 ∷ []) $ split ! $ split ! $ lft-end ! tt $ move ! (0 ∷ 5 ∷ []) $
-        use2 W (later (‵ (Local l₅ h) ⊛ ‵ (R .own h (mach ∷ [])))) (shared-back 𝓤 H A W l₅ (ν ∷ []) h) $ await ! tt $ split ! $
+        use2 W (later (‵ (Local T.the-type T′.the-laws l₅ h) ⊛ ‵ (R .own h (mach ∷ [])))) (shared-back T.the-type T′.the-laws (named 0) 𝓤 H A W l₅ (ν ∷ []) h) $ await ! tt $ split ! $
         -- [_5; what a header owns; the tokens; what the answer owns; the last length; the last output; the locals]
         move ! (3 ∷ []) $ peeks ! u32 (Is u32) (shows 𝓤 H A u32) r (w ∷ []) (λ is.
         land ! (from ! (stop !)) (init ! 23 refl (uint-lawful 𝓤 H A W w32 .typed r _ is .0)) $

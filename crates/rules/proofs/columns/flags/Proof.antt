@@ -1,67 +1,22 @@
 -- `flags` gives the union over the rows that apply.
--- The loop's invariant: the flags so far, with those of the rows still to come, are the whole union; rows past the table add none. Assumes nothing.
-use mathlib.Core.Path.{_≡_, sym, _∙_}
-use Prim.Native.Nat.{ℕ, _+_, _-_, _*_, _/_, _≤_}
-use native.Mathlib.Nat.{sub-zero}
+-- The rows past them, up to the end of a block, add none. Assumes nothing.
+use mathlib.Core.Path.{_≡_, ap, _∙_}
+use Prim.Native.Nat.{ℕ, _*_}
 use native.Mathlib.Omega.{arith}
 use denote.Ref.{now}
-use Rattle.rules.specs.Rules.{rulesOf, withRules, flagsOf}
-use Rattle.rules.proofs.Laws.{looked, none-left}
-use Rattle.rules.specs.Columns.{rulesFrom}
-use Rattle.rules.proofs.ColumnRows.{columns-step, columns-end, blank-flags}
+use Rattle.rules.specs.Rules.{flagsOf}
+use Rattle.rules.specs.Columns.{blocksOf, rulesIn}
+use Rattle.rules.proofs.ColumnRows.{blank-flags}
 use borrow.Author.Needs.{needs}
 use Rattle.rules.proofs.columns.flags.Statement.{statement}
 use Rattle.rules.proofs.columns.flags.Tie as tie
 
--- the rows of as many whole blocks as some rows need
-abbrev blocks : ℕ → ℕ
-blocks rows = (rows + 8 - 1) / 8 * 8
-
-abbrev Inv-loop : tie.InvT-loop
-Inv-loop columns rows word end all₀ row₀ all row = (row ≤ end) × (withRules word all (rulesOf (rulesFrom columns row (end - row))) ≡ flagsOf (rulesFrom columns 0 end) word)
-
-abbrev μ-loop : tie.MeasureT-loop
-μ-loop columns rows word end all₀ row₀ all row = end - row
-
-loop-holds : tie.Need-loop-holds Inv-loop μ-loop
-unfolding flagsOf
-loop-holds c = (omega arith, rw sub-zero)
-
-loop-again : tie.Need-loop-again Inv-loop μ-loop
-loop-again c =
-    let l = c .before .before .before .before .before .loop in
-    let a = c .before .before .before .before .before .before .args in
-    (omega arith, looked (a .word) (l .all) (c .flags-given .result) (columns-step (now (a .columns)) (l .row) (blocks (a .rows)) (omega arith)) (c .flags-given .ensures) ∙ l .inv .1)
-
-returns : tie.Need-returns Inv-loop μ-loop
+returns : tie.Need-returns
 returns c =
-    let l = c .before .loop in
     let a = c .before .before .args in
-    sym (none-left (a .word) (l .all) (columns-end (now (a .columns)) (l .row) (blocks (a .rows)) (omega arith)))
-    ∙ l .inv .1
-    ∙ blank-flags (now (a .columns)) (a .word) (a .rows) (blocks (a .rows)) (omega arith) (c .before .before .pre .1)
+    c .flags-in .ensures
+    ∙ ap (λ (n : ℕ). flagsOf (rulesIn (now (a .columns)) (n * 8)) (a .word)) (c .before .blocks-of .ensures)
+    ∙ blank-flags (now (a .columns)) (a .word) (a .rows) (blocksOf (a .rows) * 8) (omega arith) (c .before .before .pre .1)
 
 pub flags-spec : {M : Type 1} → statement M
-flags-spec =
-    tie.close
-    (tie.spec
-    Inv-loop
-    μ-loop
-    (λ c. search needs)
-    (λ c. search needs)
-    (λ c. search needs)
-    loop-holds
-    (λ c. search needs)
-    (λ c. search needs)
-    (λ c. search needs)
-    (λ c. search needs)
-    (λ c. search needs)
-    (λ c. search needs)
-    (λ c. search needs)
-    (λ c. search needs)
-    (λ c. search needs)
-    (λ c κs. search needs)
-    (λ c. search needs)
-    (λ c. search needs)
-    loop-again
-    returns)
+flags-spec = tie.close (tie.spec (λ c κs. search needs) (λ c κs. search needs) returns)

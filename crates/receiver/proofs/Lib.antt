@@ -1,0 +1,10 @@
+pub mod Arrived
+pub mod Records
+pub mod Pieces
+pub mod Kept
+pub mod Taken
+pub mod Passes
+pub mod Moves
+pub mod Bounds
+pub mod Ends
+pub mod Calls

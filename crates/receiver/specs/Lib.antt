@@ -1,0 +1,4 @@
+pub mod Arrived
+pub mod Waiting
+pub mod Calls
+pub mod Steps

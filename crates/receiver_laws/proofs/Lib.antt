@@ -1,0 +1,12 @@
+pub mod After
+pub mod Alike
+pub mod Stored
+pub mod Bounds
+pub mod Waits
+pub mod Stands
+pub mod Turns
+pub mod Levels
+pub mod Ends
+pub mod Refusals
+pub mod Closed
+pub mod Received
