@@ -624,6 +624,8 @@ static void spoiled(void)
     start_midway(), receiver.rows = 0, refuses_all();
     start_midway(), receiver.rows = 9, refuses_all();
     start_midway(), receiver.rows = UINT64_MAX, refuses_all();
+    start_midway(), receiver.rule_blocks = 1, receiver.rules[64 + 64 + 7] = 16, refuses_all();
+    start_midway(), receiver.offset = receiver.rows = receiver.whole = 0, receiver.taken = 6, refuses_all();
     start_midway(), receiver.taken = 16, refuses_all(); /* the second record is all in */
     start_midway(), receiver.kept[6] = receiver.kept[7] = 0, receiver.taken = 1000, refuses_all();
     /* what may be so stays in use */
@@ -875,10 +877,13 @@ static void put_state(void)
         receiver.rules[64 + row] = (uint32_t)(next_byte() & 0x3f) << 24;
         receiver.rules[128 + row] = next_byte() % 16;
     }
+    if (next_byte() % 16 == 0)
+        receiver.rules[128 + next_byte() % CRASHLOG_MOST_RULES] = (uint32_t)mostly_below(32);
     put_record(receiver.kept, type, next_byte() % 64, sizeof receiver.kept, units);
 }
 
-/* Whether a call could have left the receiver so: its numbers fit each other, and no record of what it has kept is all in. */
+/* Whether a call could have left the receiver so: its numbers fit each other, its rules are valid, and no record of what it has
+ * kept is all in. */
 static int is_in_use(void)
 {
     const uint64_t most_declared = 524280, held = receiver.taken - receiver.offset;
@@ -888,13 +893,13 @@ static int is_in_use(void)
     if (receiver.stage != 1 || receiver.whole > 1 || receiver.rule_blocks > 8 || receiver.taken > CRASHLOG_MOST_BYTES)
         return 0;
     if (receiver.offset > receiver.taken || receiver.rows > receiver.offset ||
-        receiver.offset > receiver.rows * most_declared)
+        receiver.offset > receiver.rows * most_declared || (receiver.rows == 0 && receiver.whole == 0))
         return 0;
     for (size_t row = 0; row < CRASHLOG_MOST_RULES; row++)
         for (size_t column = 0; column < 3; column++)
             rules[3 * row + column] = receiver.rules[64 * column + row];
     uint32_t answer = decode(receiver.kept, held < 536 ? held : 536, rules, 24 * receiver.rule_blocks, &header);
-    return answer != CRASHLOG_DONE || judged.declared == 0 || judged.declared > held;
+    return answer != CRASHLOG_BAD_RULES && (answer != CRASHLOG_DONE || judged.declared == 0 || judged.declared > held);
 }
 
 /* Any content is refused with 13, or is gone on with. */

@@ -54,14 +54,25 @@ static bool in_bounds(const crashlog_receiver *receiver)
 {
     return receiver->stage == IN_USE && receiver->whole <= 1 && receiver->rule_blocks <= CRASHLOG_MOST_RULES / 8 &&
            receiver->taken <= CRASHLOG_MOST_BYTES && receiver->offset <= receiver->taken &&
-           receiver->rows <= receiver->offset && receiver->offset <= receiver->rows * MOST_DECLARED;
+           receiver->rows <= receiver->offset && receiver->offset <= receiver->rows * MOST_DECLARED &&
+           (receiver->rows > 0 || receiver->whole == 1);
+}
+
+/* Whether its rules are valid. */
+static bool flags_small(const crashlog_receiver *receiver)
+{
+    const uint32_t *given = receiver->rules + 2 * CRASHLOG_MOST_RULES;
+    bool small = true;
+    for (size_t row = 0; row < 8 * receiver->rule_blocks; row++)
+        small &= given[row] <= 15;
+    return small;
 }
 
 /* Judges the header that is waited for. Whether the receiver is one that a call left: in it no record is all in. */
 static bool usable(const crashlog_receiver *receiver, struct head *head)
 {
     *head = (struct head){0};
-    if (!in_bounds(receiver))
+    if (!in_bounds(receiver) || !flags_small(receiver))
         return false;
     size_t held = receiver->taken - receiver->offset;
     judge_at(receiver, receiver->kept, held, head);

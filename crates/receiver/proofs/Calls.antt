@@ -20,7 +20,7 @@ use Rattle.region.specs.Listing.{numberOf, listingTold}
 use Rattle.region.specs.declared.Listing.{Listing}
 use Rattle.receiver.specs.Arrived.{arrived, extent, wholeWith}
 use Rattle.receiver.specs.Waiting.{settled}
-use Rattle.receiver.specs.Calls.{mostKept, mostPiece, leastRoom, shutDown, inUse, stateOf, heldIn, rulesAt, waitingOf, inBounds, usable, FeedOut, fedAs, feedRefused, takenIn, pieceTaken, feedOut, FinishOut, finishRefused, finished, finishOut}
+use Rattle.receiver.specs.Calls.{mostKept, mostPiece, leastRoom, shutDown, inUse, stateOf, heldIn, rulesAt, waitingOf, sound, usable, FeedOut, fedAs, feedRefused, takenIn, pieceTaken, feedOut, FinishOut, finishRefused, finished, finishOut}
 use Rattle.receiver.specs.Steps.{movedOf, lastOf}
 use Rattle.receiver.specs.declared.State.{State}
 use Rattle.receiver.specs.declared.Receiver.{Receiver}
@@ -44,7 +44,7 @@ room-enough t h = omega arith
 -- nothing of what a usable receiver waits for is all in
 pub none-settled : (s : State) (columns kept : List ℕ) → usable s columns kept ≡ true → settled (rulesAt s columns) (waitingOf s kept) ≡ []
 unfolding usable
-none-settled s columns kept e = none-left (settled (rulesAt s columns) (waitingOf s kept)) (eqb-true _ 0 (both (inBounds s) _ e .1))
+none-settled s columns kept e = none-left (settled (rulesAt s columns) (waitingOf s kept)) (eqb-true _ 0 (both (sound s columns) _ e .1))
   where
     none-left : (rs : List Span) → length rs ≡ 0 → rs ≡ []
     none-left [] z = refl

@@ -57,18 +57,23 @@ waitingOf s kept =
       whole = eqb (s .whole) 1;
     }
 
--- its numbers are such as a call leaves: each in its range, and the records before its offset have 1 to 524,280 bytes each
+-- its numbers are such as a call leaves: each in its range
 abbrev pub inRange : State → Bool
 inRange s =
     ((((eqb (s .stage) inUse && leb (s .whole) 1) && leb (s .«rule_blocks») 8) && leb (s .taken) mostBytes) && leb (s .offset) (s .taken))
     && leb (s .rows) (s .offset)
 
+-- the records before its offset have 1 to 524,280 bytes each, and where there is none, all is whole
 unfoldable pub inBounds : State → Bool
-inBounds s = inRange s && leb (s .offset) (s .rows * 524280)
+inBounds s = inRange s && (leb (s .offset) (s .rows * 524280) && (ltb 0 (s .rows) || eqb (s .whole) 1))
 
--- and so are its bytes: no record of them is all in
+-- its rules are a valid table
+unfoldable pub sound : State → List ℕ → Bool
+sound s columns = inBounds s && validOf (rulesAt s columns)
+
+-- and no record of its bytes is all in
 unfoldable pub usable : State → List ℕ → List ℕ → Bool
-usable s columns kept = inBounds s && eqb (length (settled (rulesAt s columns) (waitingOf s kept))) 0
+usable s columns kept = sound s columns && eqb (length (settled (rulesAt s columns) (waitingOf s kept))) 0
 
 -- ---- start
 

@@ -9,7 +9,7 @@ ghost use Rattle.rules.specs.Columns.{rulesIn};
 ghost use Rattle.header_judge.specs.Version.{wordOf};
 ghost use Rattle.header_judge.specs.Head.{headOf};
 ghost use Rattle.receiver.specs.Steps.{Known, bytesIn, movedOf};
-ghost use Rattle.receiver.specs.Calls.{shutDown, inBounds, heldIn, waitingOf, rulesAt, usable, startOut, takenIn, fedAs, feedOut, finishOut};
+ghost use Rattle.receiver.specs.Calls.{shutDown, inBounds, sound, heldIn, waitingOf, rulesAt, usable, startOut, takenIn, fedAs, feedOut, finishOut};
 
 pub mod last;
 pub mod pass;
@@ -127,7 +127,17 @@ fn in_bounds(state: State) -> bool
     if !in_range {
         return false;
     }
-    state.offset <= state.rows * MOST_DECLARED
+    (state.offset <= state.rows * MOST_DECLARED) & ((0 < state.rows) | (state.whole == 1))
+}
+
+// Whether a state's numbers and its rules are such as a call leaves.
+fn sound(state: State, rules: &[u32; NUMBERS]) -> bool
+    ensures { λ r. ⌜ r ≡ sound state (now (rules .entry)) ⌝ }
+{
+    if !in_bounds(state) {
+        return false;
+    }
+    rules::columns::valid_in(rules, state.rule_blocks as usize)
 }
 
 // What `held` bytes tell, by those that are kept: whether no record of them is all in.
@@ -153,7 +163,7 @@ fn see(state: State, rules: &[u32; NUMBERS], kept: &[u8]) -> Seen
     ensures { λ r. ⌜ r .usable ≡ usable state (now (rules .entry)) (now (kept .entry)) ⌝ }
     ensures { λ r. ⌜ Known (rulesAt state (now (rules .entry))) (r .word) (r .flags) ⌝ }
 {
-    if !in_bounds(state) {
+    if !sound(state, rules) {
         return Seen {
             usable: false,
             word: NO_WORD,

@@ -17,7 +17,7 @@ use Rattle.region.specs.declared.Answer.{Answer}
 use Rattle.region.specs.declared.Answer.the-variants.{Done, TooLong, BadRules, BadHeader, BadType, Empty, SpansFull, TriesSpent}
 use Rattle.receiver.specs.Arrived.{topTries, arrived}
 use Rattle.receiver.specs.Waiting.{Waiting, lastListing}
-use Rattle.receiver.specs.Calls.{shut, shutDown, rulesAt, waitingOf, inBounds, usable, leastRoom, feedOut, FinishOut, finishRefused, finished, finishOut, finishedOut}
+use Rattle.receiver.specs.Calls.{shut, shutDown, rulesAt, waitingOf, inBounds, sound, usable, leastRoom, feedOut, FinishOut, finishRefused, finished, finishOut, finishedOut}
 use Rattle.receiver.specs.declared.Receiver.{Receiver}
 use Rattle.receiver.proofs.Arrived.{topTry, top-end, top-alone}
 use Rattle.receiver_laws.specs.Received.{Call, called, refuses}
@@ -27,7 +27,7 @@ use Rattle.receiver.proofs.Calls.{none-settled}
 
 module _ (r : Receiver) (is : r .state .stage ≡ shut) where
   shut-unusable : usable (r .state) (r .rules) (r .kept) ≡ false
-  unfolding usable inBounds
+  unfolding usable sound inBounds
   shut-unusable = rw is
 
   pub shut-feed : (c : Call) → _≡_ {A = Receiver × List ℕ × ℕ × ℕ} (called r c) (r, c .table, 0, answer.notReceiving)

@@ -1,30 +1,31 @@
 -- A receiver that stands after some bytes is usable; a piece makes it stand after the piece too, with the rows that are new laid; and it ends as the walk does.
 -- What it stores is alike to what has come, under rules that lead to the same tries. Assumes nothing.
 use mathlib.Core.Path.{_≡_, refl, ap, _∙_}
-use mathlib.Core.List.{List, [], _++_, append-nil}
-use mathlib.Core.Bool.{Bool, true, false}
+use mathlib.Core.List.{List, [], _∷_, _++_, append-nil}
+use mathlib.Core.Bool.{Bool, true, false, _||_}
 use mathlib.Core.Logic.{_⊎_, inl, inr}
 use Prim.Native.Nat.{ℕ, _-_, _*_, _/_, _≤_, _<_}
 use native.Mathlib.Omega.{arith}
 use native.Mathlib.Nat.{zero-add}
-use lib.Dec.{eqb, leb}
+use lib.Dec.{eqb, leb, ltb}
 use lib.ListN.{length, take, drop, replicate, length-append, length-take, length-drop, length-replicate, drop-of-length-le}
 use lib.Seq.{take-take, take-at, take-all, take-append-seam}
-use borrow.Author.Tests.{le-leb}
+use borrow.Author.Tests.{le-leb, lt-ltb}
 use Rattle.answers.specs.Numbers.{mostBytes}
 use Rattle.basics.proofs.Orders.{le-or-lt}
 use Rattle.rules.specs.Rules.{validOf}
 use Rattle.rules.specs.Columns.{columnsOf, blocksOf}
 use Rattle.header_judge.specs.Version.{bit}
-use Rattle.receiver.specs.Arrived.{topTries}
+use Rattle.region_rows.specs.declared.Span.{Span}
+use Rattle.receiver.specs.Arrived.{topTries, arrived, wholeWith}
 use Rattle.receiver.specs.Waiting.{Waiting, settled}
-use Rattle.receiver.specs.Calls.{mostKept, heldIn, rulesAt, waitingOf, inBounds, usable, stateAt, keptOf}
+use Rattle.receiver.specs.Calls.{mostKept, heldIn, rulesAt, waitingOf, inBounds, sound, usable, stateAt, keptOf}
 use Rattle.receiver.specs.declared.State.{State}
 use Rattle.receiver.specs.declared.Receiver.{Receiver}
 use Rattle.receiver.proofs.Arrived.{rest-waits, extent-within, rows-within}
 use Rattle.receiver_laws.specs.Stands.{after, Stands}
 use Rattle.receiver_laws.specs.Received.{Bytes}
-use Rattle.receiver_laws.proofs.Stored.{stored-tries, stored-blocks}
+use Rattle.receiver_laws.proofs.Stored.{stored-tries, stored-blocks, stored-valid}
 use Rattle.receiver_laws.proofs.Bounds.{extent-most}
 use Rattle.receiver_laws.proofs.Waits.{SameWait, same-waits}
 
@@ -67,6 +68,12 @@ bit-back false = refl
 bit-small : (b : Bool) → leb (bit b) 1 ≡ true
 bit-small true = refl
 bit-small false = refl
+
+-- without a record all is whole
+none-spoils : (rs : List Span) → (ltb 0 (length rs) || eqb (bit (wholeWith true rs)) 1) ≡ true
+unfolding wholeWith
+none-spoils [] = refl
+none-spoils (r ∷ rs) = rw (lt-ltb 0 (length (r ∷ rs)) (omega arith))
 
 -- one that waits where the walk does, and has stored the first of what it waits with
 pub stands-at : (rules bytes : List ℕ) (s : State) (taken : ℕ) (w : Waiting) (columns kept : List ℕ) → SameWait w (after rules bytes) → taken ≡ length bytes
@@ -114,10 +121,14 @@ module _ (rules bytes : List ℕ) (r : Receiver) (stands : Stands rules bytes r)
           let within : w .offset ≤ length bytes = omega (arith, extent-within rules bytes 0) in
           let each : w .rows ≤ w .offset = omega (arith, rows-within rules bytes 0) in
           let most : w .offset ≤ w .rows * 524280 = omega (arith, extent-most rules bytes 0 small) in
-          rw (stands .state, bit-small (w .whole), le-leb _ 8 (stored-blocks rules valid), le-leb _ mostBytes short, le-leb _ _ within, le-leb _ _ each, le-leb _ _ most)
+          rw (stands .state, bit-small (w .whole), le-leb _ 8 (stored-blocks rules valid), le-leb _ mostBytes short, le-leb _ _ within, le-leb _ _ each, le-leb _ _ most, zero-add (length (arrived rules bytes 0)), none-spoils (arrived rules bytes 0))
+
+      is-sound : sound (r .state) (r .rules) ≡ true
+      unfolding sound
+      is-sound = rw (in-bounds, stands .state, stands .columns, stored-valid rules valid)
 
       pub stands-usable : usable (r .state) (r .rules) (r .kept) ≡ true
       unfolding usable
       stands-usable =
           let v : Waiting = waitingOf (r .state) (r .kept) in
-          rw (in-bounds, tries-are (v .bytes) (v .offset), same-waits rules v (after rules bytes) same-wait waits)
+          rw (is-sound, tries-are (v .bytes) (v .offset), same-waits rules v (after rules bytes) same-wait waits)

@@ -1,4 +1,4 @@
--- The rules that a receiver stores as columns, in whole blocks, lead to the same tries as the table that it was started with.
+-- The rules that a receiver stores as columns, in whole blocks, are a valid table, and lead to the same tries as the one that it was started with.
 -- Tries look at a table by the flags of words alone, and rows past the table have no flags. Assumes nothing.
 use mathlib.Core.Path.{_≡_, refl, ap, _∙_}
 use mathlib.Core.List.{List, [], _∷_}
@@ -9,7 +9,7 @@ use lib.ListN.{length}
 use Rattle.rules.specs.Rules.{flagsOf, validOf}
 use Rattle.rules.specs.Columns.{columnsOf, blocksOf, rulesIn}
 use Rattle.rules.proofs.Laws.{valid-rows}
-use Rattle.rules.proofs.ColumnRows.{blank-flags, columns-hold}
+use Rattle.rules.proofs.ColumnRows.{Holds, blank-flags, blank-valid, columns-hold}
 use Rattle.header_judge.specs.Version.{wordOf}
 use Rattle.header_judge.specs.Head.{headOf, headWith}
 use Rattle.region_rows.specs.Rows.{top}
@@ -36,19 +36,27 @@ abbrev pub storedRules : List ℕ → List ℕ
 storedRules rules = rulesIn (columnsOf rules) (blocksOf (length rules / 3) * 8)
 
 module _ (rules : List ℕ) (valid : validOf rules ≡ true) where
+  -- eight blocks at most
+  pub stored-blocks : blocksOf (length rules / 3) ≤ 8
+  stored-blocks = let whole = valid-rows rules valid in omega arith
+
+  hold : Holds (columnsOf rules) rules (length rules / 3)
+  hold = let whole = valid-rows rules valid in columns-hold rules (whole .0) (whole .1)
+
+  rows-in : length rules / 3 ≤ blocksOf (length rules / 3) * 8
+  rows-in = omega arith
+
+  pub stored-valid : validOf (storedRules rules) ≡ true
+  stored-valid =
+      blank-valid (columnsOf rules) (length rules / 3) (blocksOf (length rules / 3) * 8) rows-in (hold .blank) (omega (arith, stored-blocks))
+      (rw (hold .held) valid)
+
   stored-head : (bs : List ℕ) → headOf (storedRules rules) bs ≡ headOf rules bs
   unfolding headOf
   stored-head bs =
-      let whole = valid-rows rules valid in
-      let hold = columns-hold rules (whole .0) (whole .1) in
-      let rows : length rules / 3 ≤ blocksOf (length rules / 3) * 8 = omega arith in
       ap (headWith bs (wordOf bs))
-      (blank-flags (columnsOf rules) (wordOf bs) (length rules / 3) (blocksOf (length rules / 3) * 8) rows (hold .blank)
+      (blank-flags (columnsOf rules) (length rules / 3) (blocksOf (length rules / 3) * 8) rows-in (hold .blank) (wordOf bs)
       ∙ ap (λ (rs : List ℕ). flagsOf rs (wordOf bs)) (hold .held))
 
   pub stored-tries : (bs : List ℕ) (offset : ℕ) → topTries (storedRules rules) bs offset ≡ topTries rules bs offset
   stored-tries bs offset = same-tries (storedRules rules) rules stored-head bs offset
-
-  -- eight blocks at most
-  pub stored-blocks : blocksOf (length rules / 3) ≤ 8
-  stored-blocks = let whole = valid-rows rules valid in omega arith

@@ -1,16 +1,18 @@
--- The rows of columns, as the code meets them: the first row and those after it, or none; rows without flags; a row stored after some others.
+-- The rows of columns, as the code meets them: the first row and those after it, or none; when they are a valid table; rows without flags; a row stored after some others.
 -- By induction over the rows; a store in one column touches no other. Assumes nothing.
 use mathlib.Core.Path.{_≡_, refl, sym, ap, subst, _∙_}
 use mathlib.Core.Logic.{_≢_}
+use mathlib.Core.Bool.{true}
 use mathlib.Core.List.{List, [], _∷_, _++_, append-assoc, append-nil}
-use Prim.Native.Nat.{ℕ, zero, suc, _+_, _-_, _/_, _%_, _≤_, _<_}
+use Prim.Native.Nat.{ℕ, zero, suc, _+_, _-_, _*_, _/_, _%_, _≤_, _<_}
 use native.Mathlib.Nat.{zero-add, add-zero}
 use native.Mathlib.Omega.{arith}
 use lib.ListN.{length, getD, set, replicate, length-set}
 use lib.Seq.{getD-set-same, getD-set-other}
-use Rattle.rules.specs.Rules.{Rule, rule, applies, withRule, rulesOf, withRules, flagsOf}
+use borrow.Author.Tests.{eq-eqb, le-leb}
+use Rattle.rules.specs.Rules.{Rule, rule, applies, withRule, rulesOf, withRules, flagsOf, flagsSmall, validOf}
 use Rattle.rules.specs.Columns.{withRow, withRowsFrom, columnsOf, rulesFrom, rulesIn, Blank}
-use Rattle.rules.proofs.Laws.{row-adds-none}
+use Rattle.rules.proofs.Laws.{rules-both, small-both, row-adds-none}
 
 -- ---- rows that are read
 
@@ -25,6 +27,25 @@ pub columns-step : (t : List ℕ) (at n : ℕ) → at < n
 unfolding rulesOf rulesFrom
 columns-step t at n h = let more : n - at ≡ suc (n - (at + 1)) = omega arith in rw more
 
+-- rows, and those after them
+rows-both : (t : List ℕ) (at k m : ℕ) → rulesOf (rulesFrom t at (k + m)) ≡ rulesOf (rulesFrom t at k) ++ rulesOf (rulesFrom t (at + k) m)
+unfolding rulesOf rulesFrom
+rows-both t at zero m = rw (zero-add m, add-zero at)
+rows-both t at (suc k) m =
+    let more : suc k + m ≡ suc (k + m) = omega arith in
+    let next : at + 1 + k ≡ at + suc k = omega arith in
+    rw more (ap (λ (rs : List Rule). rule (getD t at 0) (getD t (at + 64) 0) (getD t (at + 128) 0) ∷ rs) (rw next at (rows-both t (at + 1) k m)))
+
+length-from : (t : List ℕ) (at n : ℕ) → length (rulesFrom t at n) ≡ n * 3
+unfolding rulesFrom
+length-from t at zero = refl
+length-from t at (suc n) = rw (length-from t (at + 1) n) (omega arith)
+
+-- whole rows, so that the flags numbers alone are to be judged
+pub small-valid : (t : List ℕ) (n : ℕ) → n ≤ 64 → flagsSmall (rulesOf (rulesIn t n)) ≡ validOf (rulesIn t n)
+unfolding validOf
+small-valid t n h = rw (length-from t 0 n, eq-eqb (n * 3 % 3) 0 (omega arith), le-leb (n * 3 / 3) 64 (omega arith))
+
 -- ---- rows without flags
 
 -- columns of zeros have none
@@ -33,7 +54,7 @@ zero-at zero i = refl
 zero-at (suc n) zero = refl
 zero-at (suc n) (suc i) = zero-at n i
 
--- they add none
+-- they add none, and their flags numbers are small
 blank-none : (t : List ℕ) (word all at m : ℕ) → Blank t at → withRules word all (rulesOf (rulesFrom t at m)) ≡ all
 unfolding withRules rulesOf rulesFrom
 blank-none t word all at zero blank = refl
@@ -42,19 +63,30 @@ blank-none t word all at (suc m) blank =
     rw (blank at (omega arith)) (row-adds-none (applies word (rule (getD t at 0) (getD t (at + 64) 0) 0)) all) in
     rw same (blank-none t word all (at + 1) m (λ row h. blank row (omega arith)))
 
--- with so many rows after some others, the flags are those of the others
-blank-after : (t : List ℕ) (word all at k m : ℕ) → Blank t (at + k) → withRules word all (rulesOf (rulesFrom t at (k + m))) ≡ withRules word all (rulesOf (rulesFrom t at k))
-unfolding withRules rulesOf rulesFrom
-blank-after t word all at zero m blank = let e : zero + m ≡ m = omega arith in rw e (blank-none t word all at m (λ row h. blank row (omega arith)))
-blank-after t word all at (suc k) m blank =
-    let e : suc k + m ≡ suc (k + m) = omega arith in
-    rw e (blank-after t word (withRule word all (rule (getD t at 0) (getD t (at + 64) 0) (getD t (at + 128) 0))) (at + 1) k m (λ row h. blank row (omega arith)))
+blank-small : (t : List ℕ) (at m : ℕ) → Blank t at → flagsSmall (rulesOf (rulesFrom t at m)) ≡ true
+unfolding flagsSmall rulesOf rulesFrom
+blank-small t at zero blank = refl
+blank-small t at (suc m) blank = rw (blank at (omega arith)) (blank-small t (at + 1) m (λ row h. blank row (omega arith)))
 
-pub blank-flags : (t : List ℕ) (word rows end : ℕ) → rows ≤ end → Blank t rows → flagsOf (rulesIn t end) word ≡ flagsOf (rulesIn t rows) word
-unfolding flagsOf
-blank-flags t word rows end h blank =
-    let e : end ≡ rows + (end - rows) = omega arith in
-    rw e (blank-after t word 0 0 rows (end - rows) (λ row g. blank row (omega arith)))
+-- after some others
+module _ (t : List ℕ) (rows end : ℕ) (h : rows ≤ end) (blank : Blank t rows) where
+  apart : rulesOf (rulesIn t end) ≡ rulesOf (rulesIn t rows) ++ rulesOf (rulesFrom t rows (end - rows))
+  apart =
+      let e : rows + (end - rows) ≡ end = omega arith in
+      rw (e, zero-add rows) at (rows-both t 0 rows (end - rows))
+
+  pub blank-flags : (word : ℕ) → flagsOf (rulesIn t end) word ≡ flagsOf (rulesIn t rows) word
+  unfolding flagsOf
+  blank-flags word =
+      ap (withRules word 0) apart
+      ∙ rules-both word 0 (rulesOf (rulesIn t rows)) (rulesOf (rulesFrom t rows (end - rows)))
+      ∙ blank-none t word (withRules word 0 (rulesOf (rulesIn t rows))) rows (end - rows) blank
+
+  pub blank-valid : end ≤ 64 → validOf (rulesIn t rows) ≡ true → validOf (rulesIn t end) ≡ true
+  blank-valid g valid =
+      sym (small-valid t end g)
+      ∙ ap flagsSmall apart
+      ∙ small-both (rulesOf (rulesIn t rows)) (rulesOf (rulesFrom t rows (end - rows))) (small-valid t rows (omega arith) ∙ valid) (blank-small t rows (end - rows) blank)
 
 -- ---- a row that is stored
 

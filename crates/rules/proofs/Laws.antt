@@ -27,6 +27,18 @@ valid-parts rules e =
 pub valid-rows : (rules : List ℕ) → validOf rules ≡ true → (length rules % 3 ≡ 0) × (length rules ≤ 192)
 valid-rows rules e = let q = valid-parts rules e in (q .0, omega arith)
 
+-- ---- rows, and those after them
+
+pub rules-both : (word all : ℕ) (rs ts : List Rule) → withRules word all (rs ++ ts) ≡ withRules word (withRules word all rs) ts
+unfolding withRules
+rules-both word all [] ts = refl
+rules-both word all (r ∷ rs) ts = rules-both word (withRule word all r) rs ts
+
+pub small-both : (rs ts : List Rule) → flagsSmall rs ≡ true → flagsSmall ts ≡ true → flagsSmall (rs ++ ts) ≡ true
+unfolding flagsSmall
+small-both [] ts h g = g
+small-both (r ∷ rs) ts h g = let q = both (leb (r .flags) 15) (flagsSmall rs) h in rw (q .0) (small-both rs ts (q .1) g)
+
 -- ---- at most 15
 
 pick-lt : (t : Bool) (a b : ℕ) → a < 2 ^ 4 → b < 2 ^ 4 → cond t (bitOr a b) a < 2 ^ 4

@@ -2,8 +2,9 @@
 ghost use mathlib.Core.Path.{_≡_};
 ghost use Prim.Native.Nat.{_*_, _%_, _≤_};
 ghost use lib.ListN.{length};
-ghost use Rattle.rules.specs.Rules.{flagsOf};
+ghost use Rattle.rules.specs.Rules.{flagsOf, validOf};
 ghost use Rattle.rules.specs.Columns.{columnsOf, blocksOf, rulesIn, Blank};
+use crate::EVERY_FLAG;
 use crate::NUMBERS_IN_RULE;
 
 // The rows that a column has room for.
@@ -68,4 +69,19 @@ pub fn flags_in(columns: &[u32; NUMBERS], blocks: usize, word: u32) -> u32
         row = row + 1;
     }
     all
+}
+
+// Whether the rows of some blocks are a valid table, without a branch on them.
+pub fn valid_in(columns: &[u32; NUMBERS], blocks: usize) -> bool
+    requires { ⌜ blocks ≤ 8 ⌝ }
+    ensures { λ r. ⌜ r ≡ validOf (rulesIn (now (columns .entry)) (blocks * 8)) ⌝ }
+{
+    let end = blocks * BLOCK;
+    let mut small = true;
+    let mut row: usize = 0;
+    while row < end {
+        small = small & (columns[row + 2 * COLUMN] <= EVERY_FLAG);
+        row = row + 1;
+    }
+    small
 }

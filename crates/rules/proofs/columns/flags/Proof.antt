@@ -16,7 +16,7 @@ returns c =
     let a = c .before .before .args in
     c .flags-in .ensures
     ∙ ap (λ (n : ℕ). flagsOf (rulesIn (now (a .columns)) (n * 8)) (a .word)) (c .before .blocks-of .ensures)
-    ∙ blank-flags (now (a .columns)) (a .word) (a .rows) (blocksOf (a .rows) * 8) (omega arith) (c .before .before .pre .1)
+    ∙ blank-flags (now (a .columns)) (a .rows) (blocksOf (a .rows) * 8) (omega arith) (c .before .before .pre .1) (a .word)
 
 pub flags-spec : {M : Type 1} → statement M
 flags-spec = tie.close (tie.spec (λ c κs. search needs) (λ c κs. search needs) returns)
