@@ -1,5 +1,5 @@
 // The receiver of a region that comes in pieces, for C (document 02, C-11): each function reads and writes the struct behind C's pointer, and
-// `receiver` has its state by value. The rules and the kept bytes are lent to `feed` where they lie, so that a piece costs no copy of them.
+// `receiver` has its state by value. The rules and the kept bytes are lent where they lie, so that a piece and the end cost no copy of them.
 ghost use mathlib.Core.Path.{_≡_};
 ghost use Rattle.receiver.specs.Calls.{startedOut, fedOut, finishedOut};
 use receiver::Receiver;
@@ -46,7 +46,8 @@ pub extern "C" fn crashlog_receiver_finish(
 ) -> u32
     ensures { λ r. ⌜ (now (receiver .exit), now (spans .exit), now (told .exit), r) ≡ finishedOut (now (receiver .entry)) (now (spans .entry)) ⌝ }
 {
-    let turned = receiver::finish(*receiver, spans, told);
-    *receiver = turned.receiver;
-    turned.answer
+    let state = receiver.state;
+    let fed = receiver::finish(state, &receiver.rules, &receiver.kept, spans, told);
+    receiver.state = fed.state;
+    fed.answer
 }

@@ -86,23 +86,20 @@ module _ (s : State) (columns piece kept t : List ℕ) where
 
 -- ---- finish
 
-module _ (r : Receiver) (t : List ℕ) where
-  pub finish-unusable : usable (r .state) (r .rules) (r .kept) ≡ false → finishRefused 13 r t ≡ finishOut r t
+module _ (s : State) (columns kept t : List ℕ) where
+  pub finish-unusable : usable s columns kept ≡ false → finishRefused 13 s t ≡ finishOut s columns kept t
   unfolding finishOut
   finish-unusable e = rw e
 
-  module _ (good : usable (r .state) (r .rules) (r .kept) ≡ true) where
-    pub finish-badly : ltb (capacity t) leastRoom ≡ true → finishRefused 12 r t ≡ finishOut r t
+  module _ (good : usable s columns kept ≡ true) where
+    pub finish-badly : ltb (capacity t) leastRoom ≡ true → finishRefused 12 s t ≡ finishOut s columns kept t
     unfolding finishOut
     finish-badly e = rw (good, e)
 
     pub finish-well : ltb (capacity t) leastRoom ≡ false → (t₁ : List ℕ) (l : Listing)
-        → _≡_ {A = List ℕ × Listing} (t₁, l) (lastOf (rulesAt (r .state) (r .rules)) (waitingOf (r .state) (r .kept)) t)
-        → _≡_ {A = FinishOut}
-        (t₁, listingTold l, record { receiver = record { state = shutDown (r .state); rules = r .rules; kept = r .kept }; answer = numberOf (l .answer) })
-        (finishOut r t)
+        → _≡_ {A = List ℕ × Listing} (t₁, l) (lastOf (rulesAt s columns) (waitingOf s kept) t)
+        → _≡_ {A = FinishOut} (t₁, listingTold l, fedAs (shutDown s) (numberOf (l .answer))) (finishOut s columns kept t)
     unfolding finishOut finished lastOf
     finish-well e t₁ l q =
-        ap (λ (x : List ℕ × Listing).
-        (x .0, listingTold (x .1), record { receiver = record { state = shutDown (r .state); rules = r .rules; kept = r .kept }; answer = numberOf (x .1 .answer) })) q
+        ap (λ (x : List ℕ × Listing). (x .0, listingTold (x .1), fedAs (shutDown s) (numberOf (x .1 .answer)))) q
         ∙ rw (good, e)

@@ -153,33 +153,30 @@ fedOut r piece t =
 
 -- ---- finish
 
--- the table, what is told, and the receiver with the answer
+-- the table, what is told, and the state with the answer
 abbrev pub FinishOut : Type 0
-FinishOut = List ℕ × List ℕ × Turned
+FinishOut = List ℕ × List ℕ × Fed
 
-abbrev pub finishRefused : ℕ → Receiver → List ℕ → FinishOut
-finishRefused number r t = (t, replicate 5 0, record { receiver = r; answer = number })
+abbrev pub finishRefused : ℕ → State → List ℕ → FinishOut
+finishRefused number s t = (t, replicate 5 0, fedAs s number)
 
 -- the last row, if any, is laid at the table's start
-unfoldable pub finished : List ℕ → Receiver → Waiting → List ℕ → FinishOut
-finished rules r w t = (
+unfoldable pub finished : List ℕ → State → Waiting → List ℕ → FinishOut
+finished rules s w t = (
   laid (rowsFound (lastTries rules w)) t,
   listingTold (lastListing rules w),
-  record {
-    receiver = record { state = shutDown (r .state); rules = r .rules; kept = r .kept };
-    answer = numberOf (lastListing rules w .answer);
-  },
+  fedAs (shutDown s) (numberOf (lastListing rules w .answer)),
 )
 
-unfoldable pub finishOut : Receiver → List ℕ → FinishOut
-finishOut r t =
-    cond (usable (r .state) (r .rules) (r .kept))
-    (cond (ltb (capacity t) leastRoom) (finishRefused answer.badPiece r t)
-    (finished (rulesAt (r .state) (r .rules)) r (waitingOf (r .state) (r .kept)) t))
-    (finishRefused answer.notReceiving r t)
+unfoldable pub finishOut : State → List ℕ → List ℕ → List ℕ → FinishOut
+finishOut s columns kept t =
+    cond (usable s columns kept)
+    (cond (ltb (capacity t) leastRoom) (finishRefused answer.badPiece s t)
+    (finished (rulesAt s columns) s (waitingOf s kept) t))
+    (finishRefused answer.notReceiving s t)
 
 -- the receiver, the table, what is told, and the answer
 abbrev pub finishedOut : Receiver → List ℕ → Receiver × List ℕ × List ℕ × ℕ
 finishedOut r t =
-    let out = finishOut r t in
-    (out .2 .receiver, out .0, out .1, out .2 .answer)
+    let out = finishOut (r .state) (r .rules) (r .kept) t in
+    (record { state = out .2 .state; rules = r .rules; kept = r .kept }, out .0, out .1, out .2 .answer)

@@ -272,36 +272,35 @@ pub fn feed(
 }
 
 // The end of the bytes: a last short row, if a record lacks bytes, and what is told of the walk.
-pub fn finish(receiver: Receiver, spans: &mut [u32], told: &mut [u64; 5]) -> Turned
-    ensures { λ r. ⌜ (now (spans .exit), now (told .exit), r) ≡ finishOut receiver (now (spans .entry)) ⌝ }
+pub fn finish(
+    state: State,
+    rules: &[u32; NUMBERS],
+    kept: &[u8],
+    spans: &mut [u32],
+    told: &mut [u64; 5],
+) -> Fed
+    requires { ⌜ length (now kept) ≡ 536 ⌝ }
+    ensures { λ r. ⌜ (now (spans .exit), now (told .exit), r) ≡ finishOut state (now (rules .entry)) (now (kept .entry)) (now (spans .entry)) ⌝ }
 {
-    let state = receiver.state;
-    let rules = receiver.rules;
-    let kept = receiver.kept;
     *told = [0, 0, 0, 0, 0];
-    let seen = see(state, &rules, &kept);
+    let seen = see(state, rules, kept);
     if !seen.usable {
-        return Turned {
-            receiver: receiver,
+        return Fed {
+            state: state,
             answer: answers::NOT_RECEIVING,
         };
     }
     if region_rows::room_of(spans) < LEAST_ROOM {
-        return Turned {
-            receiver: receiver,
+        return Fed {
+            state: state,
             answer: answers::BAD_PIECE,
         };
     }
-    let listing = last(state, &rules, &kept, spans);
+    let listing = last(state, rules, kept, spans);
     *told = region::listing_told(listing);
     let answer = listing.answer;
-    let state_after = shut_down(state);
-    Turned {
-        receiver: Receiver {
-            state: state_after,
-            rules: rules,
-            kept: kept,
-        },
+    Fed {
+        state: shut_down(state),
         answer: region::number_of(answer),
     }
 }

@@ -1,6 +1,6 @@
 -- A receiver that is shut is answered 13 and stays as it is; a finish that is not refused shuts one, and gives one row at most.
 -- By the tests of the calls, in their order. Assumes nothing.
-use mathlib.Core.Path.{_≡_, refl, sym, _∙_}
+use mathlib.Core.Path.{_≡_, refl, sym, ap, _∙_}
 use mathlib.Core.List.{List, [], _∷_}
 use mathlib.Core.Bool.{Bool, true, false, true≢false, cond}
 use mathlib.Core.Logic.{⊎-elim}
@@ -18,6 +18,7 @@ use Rattle.region.specs.declared.Answer.the-variants.{Done, TooLong, BadRules, 
 use Rattle.receiver.specs.Arrived.{topTries, arrived}
 use Rattle.receiver.specs.Waiting.{Waiting, lastListing}
 use Rattle.receiver.specs.Calls.{shut, shutDown, rulesAt, waitingOf, inBounds, sound, usable, leastRoom, feedOut, FinishOut, finishRefused, finished, finishOut, finishedOut}
+use Rattle.receiver.specs.declared.State.{State}
 use Rattle.receiver.specs.declared.Receiver.{Receiver}
 use Rattle.receiver.proofs.Arrived.{topTry, top-end, top-alone}
 use Rattle.receiver_laws.specs.Received.{Call, called, refuses}
@@ -66,11 +67,11 @@ listing-answers TriesSpent = refl
 module _ (r : Receiver) (t : List ℕ) where
   -- what a finish comes to
   record Turn (out : FinishOut) : Type 0 where
-    untouched : refuses (out .2 .answer) ≡ true → (out .2 .receiver ≡ r) × (out .0 ≡ t)
-    shuts : refuses (out .2 .answer) ≡ false → out .2 .receiver .state ≡ shutDown (r .state)
+    untouched : refuses (out .2 .answer) ≡ true → (out .2 .state ≡ r .state) × (out .0 ≡ t)
+    shuts : refuses (out .2 .answer) ≡ false → out .2 .state ≡ shutDown (r .state)
     few : getD (out .1) 0 0 ≤ 1
 
-  turn : Turn (finishOut r t)
+  turn : Turn (finishOut (r .state) (r .rules) (r .kept) t)
   unfolding finishOut finished lastListing
   turn = by (usable (r .state) (r .rules) (r .kept)) refl (ltb (capacity t) leastRoom)
     where
@@ -81,7 +82,7 @@ module _ (r : Receiver) (t : List ℕ) where
       w = waitingOf (r .state) (r .kept)
 
       by : (u : Bool) → usable (r .state) (r .rules) (r .kept) ≡ u → (p : Bool)
-          → Turn (cond u (cond p (finishRefused answer.badPiece r t) (finished rules r w t)) (finishRefused answer.notReceiving r t))
+          → Turn (cond u (cond p (finishRefused answer.badPiece (r .state) t) (finished rules (r .state) w t)) (finishRefused answer.notReceiving (r .state) t))
       by false u p = record { untouched = λ e. (refl, refl); shuts = λ e. absurd (true≢false e); few = omega arith }
       by true u true = record { untouched = λ e. (refl, refl); shuts = λ e. absurd (true≢false e); few = omega arith }
       by true u false =
@@ -92,7 +93,7 @@ module _ (r : Receiver) (t : List ℕ) where
           }
 
   pub finish-refused-leaves : refuses (finishedOut r t .3) ≡ true → (finishedOut r t .0 ≡ r) × (finishedOut r t .1 ≡ t)
-  finish-refused-leaves e = turn .untouched e
+  finish-refused-leaves e = let q = turn .untouched e in (ap (λ (s : State). record { state = s; rules = r .rules; kept = r .kept }) (q .0), q .1)
 
   pub finish-shuts : refuses (finishedOut r t .3) ≡ false → finishedOut r t .0 .state ≡ shutDown (r .state)
   finish-shuts e = turn .shuts e

@@ -92,7 +92,7 @@ module _ (rules bytes : List ℕ) (r : Receiver) (stands : Stands rules bytes r)
   -- ---- the end
 
   module _ (t : List ℕ) (room : leastRoom ≤ capacity t) (short : length bytes ≤ mostBytes) where
-    ended : finishOut r t ≡ finished ruled r waiting t
+    ended : finishOut (r .state) (r .rules) (r .kept) t ≡ finished ruled (r .state) waiting t
     unfolding finishOut
     ended = rw (stands-usable rules bytes r stands valid small short, le-ltb (capacity t) leastRoom room)
 

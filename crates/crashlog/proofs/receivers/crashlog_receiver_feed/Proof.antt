@@ -20,7 +20,7 @@ use ghost.Atoms.{Atoms, sem}
 use contract.Lifetimes.{AllOutlive}
 use contract.Monad.{Fun, fact}
 use contract.Running.{givenOf, tables, tablesOf}
-use types.Kit.{Given, Item, ‵, raw, some, given, later, _⊛_, ⋆, _$_, _∵_, !, qed, by, move, keep, drop, use1, use2, split, split3, join, group, learn, pick, rewrite, feqL, fsplit, fsplit3, fjoin, fjoin3, feqI, suffices, frame, await, done}
+use types.Kit.{Given, Item, ‵, raw, some, given, later, _⊛_, ⋆, _$_, _∵_, !, qed, by, move, keep, drop, use1, use2, use3, split, split3, join, group, learn, pick, rewrite, feqL, fsplit, fsplit3, fjoin, fjoin3, feqI, suffices, frame, await, done}
 use types.Run.{look, init, store, forget, stop, hop, fld, from, load, addr, lit, of-opd, and-then, no-more, assigns, land, returns, enter, alloc1, alloc0, params1, pass1, pass0, free1, free0}
 use types.Part.{agg, whole, sub, look-in}
 use types.Tokens.{lft-new, lft-end}
@@ -58,7 +58,7 @@ use Rattle.receiver.proofs.feed as core
 use Rattle.receiver.proofs.feed.Symbol as core-def
 use Rattle.receiver.proofs.feed.Symbol.{name as #feed}
 use Rattle.receiver.proofs.feed.Met as core-thm
-use Rattle.crashlog.proofs.Fields.{Knows, Rules, mark, with, rules-ref, kept-ref, rules-val, kept-val, Shared, Slice, Lends, Known, lends, returned}
+use Rattle.crashlog.proofs.Fields.{Knows, Rules, mark, with, rules-ref, kept-ref, rules-val, kept-val, KeptBytes, Shared, Slice, SliceLent, Lends, Known, kept-lent, lends, kept-back, returned}
 use Rattle.crashlog.proofs.receivers.crashlog_receiver_feed.Key.{name as #crashlog-receiver-feed}
 use Rattle.crashlog.proofs.receivers.crashlog_receiver_feed as f
 use Rattle.crashlog.proofs.receivers.crashlog_receiver_feed.Statement as stated
@@ -165,7 +165,8 @@ module _ {M : Type 1} (𝓤 : URA M) (H : Heap 𝓤) (A : Atoms 𝓤) (W : Given
         move ! (27 ∷ []) $ fsplit ! $ fsplit3 ! $ drop ! $ move ! (29 ∷ []) $ split ! $ move ! (2 ∷ 3 ∷ 0 ∷ []) $ open-ref ! tt (mem R) $
         -- [the receiver; the open borrow; obs; auth; the tokens; what is lent; the locals]
         lft-new ! tt (λ α. lft-new ! tt (λ α′. move ! (2 ∷ []) $
-        use1 W (later (given (Known 𝓤 H A W b o α α′ h) (some (λ (δ : GName × GName). Lends 𝓤 H A W b o α α′ h δ)))) (lends 𝓤 H A W b o α α′ h) $ await ! tt $ learn ! (λ was. pick ! (λ δ. split ! $ move ! (1 ∷ []) $ split3 ! $ move ! (2 ∷ []) $ split ! $
+        use1 W (later (given (Known 𝓤 H A W b o α α′ h) (some (λ (δ : GName × GName). Lends 𝓤 H A W b o α α′ h (Slice 𝓤 H A W b o α α′ h) (SliceLent 𝓤 H A W b o α α′ h) δ))))
+        (lends 𝓤 H A W b o α α′ h (Slice 𝓤 H A W b o α α′ h) (SliceLent 𝓤 H A W b o α α′ h) (kept-lent 𝓤 H A W b o α α′ h)) $ await ! tt $ learn ! (λ was. pick ! (λ δ. split ! $ move ! (1 ∷ []) $ split3 ! $ move ! (2 ∷ []) $ split ! $
         move ! (2 ∷ 3 ∷ 0 ∷ 5 ∷ 6 ∷ 10 ∷ 11 ∷ []) $ group ! 7 $ use1 W (raw (Core 𝓤 H A at-mem run .pre (to α α′ δ)) ⊛ ‵ Piece) (asks α α′ δ (was .0)) $ split ! $ move ! (0 ∷ 1 ∷ 3 ∷ []) $
         -- [what feed asks; what the piece owns; the state's cell; what the lender keeps; the open borrow; obs; auth; _12; …; _11; …; _10; …; _9; …; _8; …; _7; …; room for _6; …; _5; …; _4; …; _3; …; _2; …; _1; …; room for _0; …]
         assigns ! (of-opd ! (load ! (from ! (hop ! (look ! 29 refl) (fld ! refl (stop !)))) (look ! 2 refl))) (from ! (stop !)) (init ! 21 refl (LL.lawful S.the-type S′.the-laws 𝓤 H A W .typed (h .state) _ (was .1) .0)) $
@@ -191,7 +192,9 @@ module _ {M : Type 1} (𝓤 : URA M) (H : Heap 𝓤) (A : Atoms 𝓤) (W : Given
         -- both lifetimes are ended
         split ! $ lft-end ! tt $ move ! (1 ∷ []) $ split ! $ move ! (1 ∷ []) $ split ! $ lft-end ! tt $
         -- [α′ is over; the tokens of what is given up; the piece's; α is over; the rows' count; the last table; the last kept bytes; what the piece owns; the state's cell; what the lender keeps; the open borrow; obs; auth; the locals]
-        move ! (3 ∷ 0 ∷ 6 ∷ 8 ∷ 9 ∷ []) $ group ! 5 $ use1 W (later (‵ (mem R .lies (with h (r .state) (outs .1 .1 .1 .0)) b o))) (returned 𝓤 H A W b o α α′ h (r .state) (outs .1 .1 .1 .0) (δ .1) (was .0) (LL.owed U.the-type U′.the-laws r (w ∷ []) is .0)) $ await ! tt $
+        move ! (9 ∷ []) $ split3 ! $ move ! (3 ∷ 1 ∷ 9 ∷ []) $ use3 W (later (‵ (KeptBytes 𝓤 H A W b o α α′ h (outs .1 .1 .1 .0)))) (kept-back 𝓤 H A W b o α α′ h (outs .1 .1 .1 .0) (δ .1) (was .0)) $ await ! tt $
+        -- [the last kept bytes; the rules, lent; the way back; the tokens of what is given up; the piece's; α is over; the rows' count; the last table; what the piece owns; the state's cell; the open borrow; …]
+        move ! (5 ∷ 1 ∷ 0 ∷ 9 ∷ 2 ∷ []) $ group ! 5 $ use1 W (later (‵ (mem R .lies (with h (r .state) (outs .1 .1 .1 .0)) b o))) (returned 𝓤 H A W b o α α′ h (r .state) (outs .1 .1 .1 .0) (LL.owed U.the-type U′.the-laws r (w ∷ []) is .0)) $ await ! tt $
         move ! (0 ∷ 6 ∷ 7 ∷ 8 ∷ []) $ close-ref ! tt (mem R) (with h (r .state) (outs .1 .1 .1 .0)) $
         returns ! (look ! 32 refl) $ forget ! 8 refl $ forget ! 10 refl $ forget ! 12 refl $ forget ! 14 refl $ forget ! 16 refl $ forget ! 18 refl $ forget ! 20 refl $ forget ! 22 refl $ forget ! 24 refl $ forget ! 26 refl $ forget ! 28 refl $ forget ! 30 refl $ forget ! 32 refl $
         move ! (32 ∷ 33 ∷ []) $ free1 ! $ move ! (30 ∷ 31 ∷ []) $ free1 ! $ move ! (28 ∷ 29 ∷ []) $ free1 ! $ move ! (26 ∷ 27 ∷ []) $ free1 ! $ move ! (24 ∷ 25 ∷ []) $ free1 ! $ move ! (22 ∷ 23 ∷ []) $ free1 ! $ move ! (20 ∷ 21 ∷ []) $ free1 ! $
