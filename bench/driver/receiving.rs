@@ -5,7 +5,7 @@ use crate::listing;
 use crate::sample::{C, Candidate, LIBRARY, LISTING, Times, sample};
 use crate::span;
 use crate::table::{heading, row, shown};
-use crate::targets::Measured;
+use crate::targets::{Measured, Receptions};
 use std::cell::RefCell;
 use std::hint::black_box;
 
@@ -132,28 +132,30 @@ fn line(name: &str, rules: &[u32], pieces: usize, times: &Times) {
     row(&[&[name.to_string()][..], &numbers, &ratios].concat());
 }
 
-/// Gives the times of records that are no longer than a piece.
-pub fn report(tables: &[Vec<u32>]) -> Vec<Measured> {
+pub fn report(tables: &[Vec<u32>]) -> Receptions {
     heading(
         "Receiving a region of 1 MiB in pieces of 64 bytes",
         &["region", "rules", "pieces", "library, ns a piece", "library / C", "library / its listing"],
     );
     let mut spans = listing::spans();
-    let mut measured = Vec::new();
+    let mut measured = Receptions::default();
+    let mut report = |name: &str, size: usize, rules: &[u32], pieces: usize, times: Times| {
+        line(name, rules, pieces, &times);
+        let list = if size <= PIECE { &mut measured.short } else { &mut measured.long };
+        list.push(Measured { input: format!("{name}, {} rules", rules.len() / 3), times });
+    };
     for (name, make, size) in REGIONS {
         let region = make(MIB);
         for rules in tables {
             check_listed(&region, rules, &mut spans);
             let times = times(&region, rules, &mut spans);
-            line(name, rules, MIB / PIECE, &times);
-            if size <= PIECE {
-                measured.push(Measured { input: format!("{name}, {} rules", rules.len() / 3), times });
-            }
+            report(name, size, rules, MIB / PIECE, times);
         }
     }
     for rules in tables {
         let (pieces, receivers) = inside(rules, &mut spans);
-        line("inside a 4 KiB record", rules, pieces.len() / PIECE, &times_inside(&pieces, &receivers, &mut spans));
+        let times = times_inside(&pieces, &receivers, &mut spans);
+        report("inside a 4 KiB record", 4096, rules, pieces.len() / PIECE, times);
     }
     measured
 }

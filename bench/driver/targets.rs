@@ -9,6 +9,13 @@ pub struct Measured {
     pub times: Times,
 }
 
+/// Those on regions in pieces: of records that are no longer than a piece, and of longer ones.
+#[derive(Default)]
+pub struct Receptions {
+    pub short: Vec<Measured>,
+    pub long: Vec<Measured>,
+}
+
 /// At most so many times the time of C.
 const MOST_OF_C: f64 = 1.3;
 
@@ -25,12 +32,12 @@ fn line(target: String, worst: (f64, &str), met: bool) {
 }
 
 /// The input on which the library takes the most of another's time.
-fn slowest<'a>(measured: &'a [Measured], other: &str) -> (f64, &'a str) {
-    let ratios = measured.iter().map(|m| (m.times.ratio(LIBRARY, other).unwrap().median, m.input.as_str()));
+fn slowest<'a>(measured: impl IntoIterator<Item = &'a Measured>, other: &str) -> (f64, &'a str) {
+    let ratios = measured.into_iter().map(|m| (m.times.ratio(LIBRARY, other).unwrap().median, m.input.as_str()));
     ratios.max_by(|a, b| a.0.total_cmp(&b.0)).unwrap()
 }
 
-fn against_c(what: &str, measured: &[Measured]) {
+fn against_c<'a>(what: &str, measured: impl IntoIterator<Item = &'a Measured>) {
     let worst = slowest(measured, C);
     line(format!("{what}: at most {MOST_OF_C} times C"), worst, worst.0 <= MOST_OF_C);
 }
@@ -46,10 +53,11 @@ fn against_rust(what: &str, least: f64, measured: &[Measured]) {
     line(format!("{what}: at least {least} times as fast as the Rust"), worst, least <= worst.0);
 }
 
-pub fn report(listings: &[Measured], receptions: &[Measured], normal_forms: &[Measured]) {
+pub fn report(listings: &[Measured], receptions: &Receptions, normal_forms: &[Measured]) {
     heading("Targets", &["target", "worst", "on", "met"]);
     against_c("listing", listings);
-    against_listing("receiving records of up to 64 bytes", receptions);
+    against_c("receiving", receptions.short.iter().chain(&receptions.long));
+    against_listing("receiving records of up to 64 bytes", &receptions.short);
     against_c("normalising", normal_forms);
     if rust::PRESENT {
         against_rust("listing", LEAST_OF_RUST_LISTING, listings);
