@@ -46,7 +46,9 @@ module _ (r : Receiver) (c : Call) where
       fit : (ltb mostPiece (length (c .piece)) || ltb (capacity (c .table)) leastRoom) ≡ false → Fits c
       fit e =
           let q = neither (ltb mostPiece (length (c .piece))) (ltb (capacity (c .table)) leastRoom) e in
-          record { few = ltb-false mostPiece (length (c .piece)) (q .0); room = ltb-false (capacity (c .table)) leastRoom (q .1) }
+          let few = ltb-false mostPiece (length (c .piece)) (q .0) in
+          let room = ltb-false (capacity (c .table)) leastRoom (q .1) in
+          record { few = omega arith; room = omega arith }
 
       by : (u : Bool) → usable s (r .rules) (r .kept) ≡ u → (p : Bool) → (ltb mostPiece (length (c .piece)) || ltb (capacity (c .table)) leastRoom) ≡ p → (l : Bool)
           → Turn (cond u (cond p (feedRefused answer.badPiece s (r .kept) (c .table))
