@@ -173,7 +173,8 @@ fn refusals(cases: &mut Vec<Case>) {
     cases.push(telling(reception(&[], &region, TOO_LONG_AMONG, ROOM), (DONE, 0, true, END_OF_INPUT)));
 }
 
-/// 1,048,576 bytes are received, and one more is not: a piece up to the limit and one over it. Each record declares 524,280.
+/// 1,048,576 bytes are received, and one more is not: a piece up to the limit and one over it. Each record declares 524,280. Bytes
+/// after a zero word count too.
 fn long(cases: &mut Vec<Case>) {
     let unit = [0x01, 0x31, 0x12, 0x03, 0xff, 0xff, 0xff, 0xff];
     let row = |taken: u32, offset: u32, held: u32| -> Told { (taken, [offset, held, 524_280, 0x0312_3101]) };
@@ -186,7 +187,9 @@ fn long(cases: &mut Vec<Case>) {
     }
     let many = regions::repeated(&regions::small_record(PUNIT, 65_536), MOST_BYTES + 1);
     cases.push(telling(reception(&[], &many[..MOST_BYTES], [63; 8], ROOM), (DONE, 0, true, END_OF_INPUT)));
-    cases.push(telling(reception(&[], &many, [63; 8], ROOM), (NOT_RECEIVING + ended_by(TOO_LONG), 0, false, UNTOLD)));
+    let closed = (NOT_RECEIVING + ended_by(TOO_LONG), 0, false, UNTOLD);
+    cases.push(telling(reception(&[], &many, [63; 8], ROOM), closed));
+    cases.push(telling(reception(&[], &[0; MOST_BYTES + 1], LARGEST, ROOM), closed));
 }
 
 /// Random regions and damaged ones, in pieces by chance.
