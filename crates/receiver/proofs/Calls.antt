@@ -2,13 +2,13 @@
 -- By the definitions' tests, in their order. Assumes nothing.
 use mathlib.Core.Path.{_≡_, refl, sym, ap, _∙_}
 use mathlib.Core.List.{List, [], _∷_, _++_}
-use mathlib.Core.Bool.{Bool, true, false, _||_}
+use mathlib.Core.Bool.{true, false, _||_}
 use mathlib.Core.Logic.{⊎-elim}
-use Prim.Native.Nat.{ℕ, min, _+_, _*_, _/_, _≤_, _<_}
+use Prim.Native.Nat.{ℕ, min, _+_, _*_, _≤_, _<_}
 use native.Mathlib.Nat.{zero-add}
 use native.Mathlib.Omega.{arith}
 use lib.Dec.{eqb, ltb}
-use lib.ListN.{length, replicate}
+use lib.ListN.{length}
 use borrow.Author.Tests.{lt-ltb, le-ltb, eqb-true}
 use Rattle.basics.proofs.Bools.{both}
 use Rattle.basics.proofs.Orders.{le-or-lt}
@@ -18,14 +18,11 @@ use Rattle.region_rows.specs.Rows.{width, capacity, mostRows, stored, laid}
 use Rattle.region_rows.proofs.Rows.{stored-laid}
 use Rattle.region.specs.Listing.{numberOf, listingTold}
 use Rattle.region.specs.declared.Listing.{Listing}
-use Rattle.receiver.specs.Arrived.{arrived, extent, wholeWith}
+use Rattle.receiver.specs.Arrived.{arrived}
 use Rattle.receiver.specs.Waiting.{settled}
-use Rattle.receiver.specs.Calls.{mostKept, mostPiece, leastRoom, shutDown, inUse, stateOf, heldIn, rulesAt, waitingOf, sound, usable, FeedOut, fedAs, feedRefused, takenIn, pieceTaken, feedOut, FinishOut, finishRefused, finished, finishOut}
+use Rattle.receiver.specs.Calls.{mostPiece, leastRoom, shutDown, inUse, stateOf, heldIn, rulesAt, waitingOf, sound, usable, FeedOut, fedAs, feedRefused, takenIn, pieceTaken, feedOut, FinishOut, finishRefused, finished, finishOut}
 use Rattle.receiver.specs.Steps.{movedOf, lastOf}
 use Rattle.receiver.specs.declared.State.{State}
-use Rattle.receiver.specs.declared.Receiver.{Receiver}
-use Rattle.receiver.specs.declared.Turned.{Turned}
-use Rattle.receiver.specs.declared.Fed.{Fed}
 use Rattle.receiver.specs.declared.piece.Moved.{Moved}
 use Rattle.receiver.proofs.Pieces.{few-complete}
 

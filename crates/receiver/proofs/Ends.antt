@@ -1,12 +1,11 @@
 -- The end of the bytes: the one try that is left, and the listing with it.
 -- Nothing being all in, the try at the start is the only one. Assumes nothing.
 use mathlib.Core.Path.{_≡_, refl, sym, ap, _∙_}
-use mathlib.Core.List.{List, [], _∷_, _++_}
+use mathlib.Core.List.{List, [], _∷_}
 use mathlib.Core.Bool.{Bool, true, false, not, _&&_, and-true}
-use Prim.Native.Nat.{ℕ, zero, suc, min, _+_, _*_, _≤_, _<_}
+use Prim.Native.Nat.{ℕ, min, _+_, _≤_, _<_}
 use native.Mathlib.Nat.{add-zero}
 use native.Mathlib.Omega.{arith}
-use lib.Dec.{eqb, leb}
 use lib.ListN.{length}
 use borrow.Author.Tests.{eq-eqb, ne-eqb, lt-leb}
 use Rattle.header_judge.specs.declared.version.Ending.{Ending}
@@ -14,7 +13,6 @@ use Rattle.header_judge.specs.declared.Summary.{Summary}
 use Rattle.header_judge.specs.declared.Head.{Head}
 use Rattle.header_judge.specs.declared.Head.the-variants.{Ended, BadHeader, BadType, Record}
 use Rattle.header_judge.specs.Head.{headOf}
-use Rattle.region_rows.specs.declared.Span.{Span}
 use Rattle.region_rows.specs.Rows.{width, top, withSpan, laid}
 use Rattle.region_rows.proofs.Rows.{stored-none, stored-more, stored-laid, laid-none}
 use Rattle.region_try.specs.Stops.{stopEnded, stopBy, stopOf, badTypeOf}

@@ -1,6 +1,6 @@
 -- A pass over some bytes, taken on from a place: it ends where no record is all in, and else goes on after the record.
 -- By the first record that stands there. Assumes nothing.
-use mathlib.Core.Path.{_≡_, refl, sym, ap, subst, _∙_}
+use mathlib.Core.Path.{_≡_, sym, ap, subst}
 use mathlib.Core.List.{List, [], _∷_}
 use mathlib.Core.Bool.{Bool, _&&_}
 use Prim.Native.Nat.{ℕ, _+_, _-_, _≤_, _<_}

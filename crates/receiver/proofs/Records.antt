@@ -11,7 +11,7 @@ use lib.ListN.{length}
 use borrow.Author.Tests.{lt-leb, le-leb, leb-true, leb-false, ne-eqb}
 use Rattle.basics.proofs.Orders.{le-or-lt}
 use Rattle.header_judge.specs.Version.{noWord}
-use Rattle.header_judge.specs.Head.{noSize, lacking, sizeOf, declaredOf, isBox, summaryOf, headWith, headOf}
+use Rattle.header_judge.specs.Head.{lacking, sizeOf, declaredOf, isBox, summaryOf, headWith, headOf}
 use Rattle.header_judge.specs.declared.Summary.{Summary}
 use Rattle.header_judge.specs.declared.Head.{Head}
 use Rattle.header_judge.specs.declared.Head.the-variants.{Ended, BadHeader, BadType, Record}

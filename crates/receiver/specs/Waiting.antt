@@ -5,7 +5,7 @@ use mathlib.Core.Bool.{Bool, true, _&&_}
 use lib.Dec.{eqb}
 use lib.ListN.{length, drop}
 use Rattle.region_rows.specs.declared.Span.{Span}
-use Rattle.region_try.specs.Stops.{Standing, stopOf, badTypeOf}
+use Rattle.region_try.specs.Stops.{stopOf, badTypeOf}
 use Rattle.region_try.specs.Tries.{Try, rowsFound, standsAt}
 use Rattle.region_try.specs.Whole.{allKeepWhole}
 use Rattle.region_try.specs.declared.Cut.the-variants.{Going}

@@ -9,7 +9,7 @@ use lib.ListN.{length, take, drop, length-append}
 use lib.Seq.{take-all, take-append-le, drop-append-add}
 use Rattle.basics.proofs.Orders.{le-or-lt}
 use Rattle.header_judge.specs.Head.{headOf}
-use Rattle.header_judge.proofs.Longer.{head-decided, head-start}
+use Rattle.header_judge.proofs.Longer.{head-start}
 use Rattle.region_rows.specs.declared.Span.{Span}
 use Rattle.receiver.specs.Arrived.{topTries, arrived}
 use Rattle.receiver.specs.Calls.{mostKept}

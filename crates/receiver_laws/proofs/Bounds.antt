@@ -1,13 +1,11 @@
--- A walk past some records has gone 1 to 524,280 bytes for each, and a piece of at most 64 bytes completes 600 records at most.
--- By induction over the records; past 536 waiting bytes, all but the first record lie in the piece. Assumes nothing.
+-- A walk past some records of bytes has gone at most 524,280 bytes for each.
+-- By induction over the records. Assumes nothing.
 use mathlib.Core.Path.{_≡_, ap}
-use mathlib.Core.List.{List, [], _++_}
-use mathlib.Core.Logic.{⊎-elim}
-use Prim.Native.Nat.{ℕ, _+_, _*_, _≤_, _<_}
+use mathlib.Core.List.{List, []}
+use Prim.Native.Nat.{ℕ, _+_, _*_, _≤_}
 use native.Mathlib.Omega.{arith}
-use lib.ListN.{length, drop, length-append, length-drop}
+use lib.ListN.{length}
 use lib.Seq.{getD-drop}
-use Rattle.basics.proofs.Orders.{le-or-lt}
 use Rattle.rules.specs.Rules.{flagsOf}
 use Rattle.header_judge.specs.Version.{wordOf}
 use Rattle.header_judge.specs.Head.{declaredOf}
@@ -16,8 +14,7 @@ use Rattle.header_judge.proofs.Heads.{record-told}
 use Rattle.header_judge.proofs.Sizes.{declared-most}
 use Rattle.region_rows.specs.declared.Span.{Span}
 use Rattle.receiver.specs.Arrived.{arrived, extent}
-use Rattle.receiver.specs.Calls.{mostKept, mostPiece, leastRoom}
-use Rattle.receiver.proofs.Arrived.{Complete, top-whence, arrived-hit, by-arrived, begins, extent-within, rows-within}
+use Rattle.receiver.proofs.Arrived.{Complete, top-whence, arrived-hit, by-arrived}
 use Rattle.receiver_laws.specs.Received.{Bytes}
 
 module _ (rules : List ℕ) where

@@ -1,5 +1,5 @@
--- A receiver that stands after some bytes is usable; a piece makes it stand after the piece too, with the rows that are new laid; and it ends as the walk does.
--- What it stores is alike to what has come, under rules that lead to the same tries. Assumes nothing.
+-- A receiver that stands after some bytes waits where the walk does, under rules that lead to the same tries, and is usable.
+-- What it stores is alike to what has come. Assumes nothing.
 use mathlib.Core.Path.{_≡_, refl, ap, _∙_}
 use mathlib.Core.List.{List, [], _∷_, _++_, append-nil}
 use mathlib.Core.Bool.{Bool, true, false, _||_}

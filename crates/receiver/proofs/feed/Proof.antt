@@ -1,9 +1,8 @@
 -- `feed` gives what a piece leaves, or its refusal.
 -- By its tests, in their order. Assumes nothing.
-use mathlib.Core.Path.{_≡_, refl, sym, ap, _∙_}
-use mathlib.Core.List.{List}
+use mathlib.Core.Path.{_≡_, sym, _∙_}
 use mathlib.Core.Bool.{true, false, _||_}
-use Prim.Native.Nat.{ℕ, _+_, _≤_, _<_}
+use Prim.Native.Nat.{_≤_}
 use native.Mathlib.Omega.{arith}
 use denote.Ref.{now}
 use lib.Dec.{ltb}
@@ -11,7 +10,7 @@ use lib.ListN.{length}
 use borrow.Author.Tests.{ltb-false, not-true, not-false}
 use Rattle.basics.proofs.Bools.{neither}
 use Rattle.region_rows.specs.Rows.{capacity}
-use Rattle.receiver.specs.Calls.{mostPiece, leastRoom, usable, feedOut}
+use Rattle.receiver.specs.Calls.{mostPiece, leastRoom, usable}
 use Rattle.receiver.proofs.Bounds.{InRange, bounds-range, usable-bounds}
 use Rattle.receiver.proofs.Calls.{room-used, room-enough, feed-unusable, feed-badly, feed-long, feed-taken}
 use borrow.Author.Needs.{needs}

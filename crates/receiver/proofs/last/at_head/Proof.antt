@@ -1,9 +1,6 @@
 -- `at_head` gives the listing where the walk stands at a header.
 -- By the header's cases; a record that is not all in lacks bytes or declares none. Assumes nothing.
-use mathlib.Core.Path.{_≡_, refl, sym, ap, subst, _∙_}
-use mathlib.Core.List.{List}
-use Prim.Native.Nat.{ℕ, _+_, _≤_}
-use native.Mathlib.Omega.{arith}
+use mathlib.Core.Path.{sym, subst}
 use denote.Ref.{now}
 use Rattle.header_judge.specs.Steps.{HeadBounds}
 use Rattle.receiver.proofs.Ends.{end-ended, end-bad-header, end-bad-type, end-empty, end-short}

@@ -1,7 +1,6 @@
 -- `walk_on` gives what the records of some bytes leave.
 -- The pass ends within the bytes, and the rest of them is kept. Assumes nothing.
-use Prim.Native.Nat.{ℕ, _*_, _≤_}
-use native.Mathlib.Omega.{arith}
+use Prim.Native.Nat.{_*_, _≤_}
 use denote.Ref.{now}
 use lib.ListN.{length}
 use Rattle.rules.specs.Columns.{rulesIn}

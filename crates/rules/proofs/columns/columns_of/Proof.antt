@@ -1,7 +1,7 @@
 -- `columns_of` gives the table's columns.
 -- The loop's invariant: the columns so far, with the rows still to come, are the table's. Assumes nothing.
 use mathlib.Core.Path.{_≡_, refl, sym, _∙_}
-use Prim.Native.Nat.{ℕ, _+_, _-_, _*_, _≤_}
+use Prim.Native.Nat.{_-_, _*_, _≤_}
 use native.Mathlib.Omega.{arith}
 use lib.ListN.{length, drop, length-set}
 use denote.Ref.{now}

@@ -1,6 +1,6 @@
 -- `flags` gives the union over the rows that apply.
 -- The rows past them, up to the end of a block, add none. Assumes nothing.
-use mathlib.Core.Path.{_≡_, ap, _∙_}
+use mathlib.Core.Path.{ap, _∙_}
 use Prim.Native.Nat.{ℕ, _*_}
 use native.Mathlib.Omega.{arith}
 use denote.Ref.{now}

@@ -1,7 +1,7 @@
 -- `flags_in` gives the union over the rows that apply.
 -- The loop's invariant: the flags so far, with those of the rows still to come, are the whole union. Assumes nothing.
 use mathlib.Core.Path.{_≡_, sym, _∙_}
-use Prim.Native.Nat.{ℕ, _+_, _-_, _*_, _≤_}
+use Prim.Native.Nat.{_-_, _*_, _≤_}
 use native.Mathlib.Nat.{sub-zero}
 use native.Mathlib.Omega.{arith}
 use denote.Ref.{now}
