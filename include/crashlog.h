@@ -105,7 +105,7 @@ extern "C" {
 #define CRASHLOG_OUTPUT_SHORT 10  /* the result is longer than the output, or than 4,294,967,295 bytes */
 #define CRASHLOG_BAD_FIELD 11     /* a header that can't be encoded */
 #define CRASHLOG_BAD_PIECE 12     /* a piece over CRASHLOG_MOST_PIECE, or room for under CRASHLOG_LEAST_ROOM rows */
-#define CRASHLOG_NOT_RECEIVING 13 /* a receiver that is shut, or that no call could have left so */
+#define CRASHLOG_NOT_RECEIVING 13 /* a receiver that is shut, or whose content shows that no call left it */
 #define CRASHLOG_ENDED 254        /* decode: the records have ended; the ending is told */
 #define CRASHLOG_NONE 255         /* section: there is no such row */
 
