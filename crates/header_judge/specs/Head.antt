@@ -154,6 +154,13 @@ headWith bs word flags =
 unfoldable pub headOf : List ℕ → List ℕ → Head
 headOf rules bs = headWith bs (wordOf bs) (flagsOf rules (wordOf bs))
 
+-- the bytes that a record declares; 0 where there is none
+unfoldable pub declaredBy : Head → ℕ
+declaredBy (Ended ending) = 0
+declaredBy BadHeader = 0
+declaredBy (BadType t) = 0
+declaredBy (Record s) = s .declared
+
 -- document 01's number of each case
 abbrev pub numberOf : Head → ℕ
 numberOf (Ended ending) = ended

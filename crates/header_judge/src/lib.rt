@@ -4,7 +4,7 @@ ghost use mathlib.Core.Path.{_≡_};
 ghost use Prim.Native.Nat.{_+_, _*_, _≤_, _<_};
 ghost use lib.ListN.{length};
 ghost use Rattle.header_judge.specs.Steps.{Measured, HeadBounds};
-ghost use Rattle.header_judge.specs.Head.{legacy, recordSize, extendedSize, sizesEnd, unit, declaredOf, countOf, shapeOf, layoutOf, enough, lacking, sizeOf, isBox, summaryOf, headWith, headOf};
+ghost use Rattle.header_judge.specs.Head.{legacy, recordSize, extendedSize, sizesEnd, unit, declaredOf, countOf, shapeOf, layoutOf, enough, lacking, sizeOf, isBox, summaryOf, headWith, headOf, declaredBy};
 
 pub mod origin;
 pub mod version;
@@ -221,6 +221,20 @@ pub fn size_of(s: &[u8], word: u32, flags: u32) -> usize
     }
     let shape = shape_of(s, word / 256 % 16);
     sized(s, shape.size)
+}
+
+// The bytes that the record declares, where its header's size is known: 0 where no record is.
+pub fn declared_in(s: &[u8], word: u32, flags: u32, size: usize) -> usize
+    requires { ⌜ (size ≡ sizeOf (now s) word flags) × Measured (now s) flags size ⌝ }
+    ensures { λ r. ⌜ (r ≡ declaredBy (headWith (now (s .entry)) word flags)) × (r ≤ 524280) ⌝ }
+{
+    if word == NO_WORD {
+        return 0;
+    }
+    if size <= LACKING {
+        return 0;
+    }
+    declared_of(s, flags)
 }
 
 // What a header says of its record, where its sizes are known.

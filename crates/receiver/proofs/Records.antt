@@ -10,12 +10,12 @@ use lib.Dec.{eqb, leb, ltb}
 use lib.ListN.{length}
 use borrow.Author.Tests.{lt-leb, le-leb, leb-true, leb-false, ne-eqb}
 use Rattle.basics.proofs.Orders.{le-or-lt}
-use Rattle.header_judge.specs.Version.{noWord}
-use Rattle.header_judge.specs.Head.{lacking, sizeOf, declaredOf, isBox, summaryOf, headWith, headOf}
+use Rattle.header_judge.specs.Head.{lacking, sizeOf, declaredOf, isBox, summaryOf, headWith, headOf, declaredBy}
 use Rattle.header_judge.specs.declared.Summary.{Summary}
 use Rattle.header_judge.specs.declared.Head.{Head}
 use Rattle.header_judge.specs.declared.Head.the-variants.{Ended, BadHeader, BadType, Record}
-use Rattle.header_judge.proofs.Heads.{head-ended, head-bad-type, head-bad-header, head-record}
+use Rattle.header_judge.proofs.Heads as heads
+use Rattle.header_judge.proofs.Heads.{head-record, declared-record}
 use Rattle.region_rows.specs.declared.Span.{Span}
 use Rattle.region_rows.specs.Rows.{top}
 use Rattle.region_try.specs.Tries.{Try, none, hit, spanOf, tryOf}
@@ -33,11 +33,20 @@ pub record Full (left : ℕ) (head : Head) : Type 0 where
   pub fits : summary .declared ≤ left
   pub bytes : bytesIn left head ≡ summary .declared
 
-pub full : (left : ℕ) (head : Head) → 0 < bytesIn left head → Full left head
+-- none are where none is declared
+no-bytes : (left : ℕ) (head : Head) → declaredBy head ≡ 0 → 0 < bytesIn left head → ⊥
 unfolding bytesIn
-full left (Ended ending) h = absurd (omega arith)
-full left BadHeader h = absurd (omega arith)
-full left (BadType t) h = absurd (omega arith)
+no-bytes left head e h = by (leb 0 left) (rw e at h)
+  where
+    by : (b : Bool) → 0 < cond b 0 0 → ⊥
+    by true h = omega arith
+    by false h = omega arith
+
+pub full : (left : ℕ) (head : Head) → 0 < bytesIn left head → Full left head
+unfolding bytesIn declaredBy
+full left (Ended ending) h = absurd (no-bytes left (Ended ending) refl h)
+full left BadHeader h = absurd (no-bytes left BadHeader refl h)
+full left (BadType t) h = absurd (no-bytes left (BadType t) refl h)
 full left (Record s) h = by (leb (s .declared) left) refl h
   where
     by : (b : Bool) → leb (s .declared) left ≡ b → 0 < cond b (s .declared) 0 → Full left (Record s)
@@ -46,7 +55,7 @@ full left (Record s) h = by (leb (s .declared) left) refl h
 
 -- a record that is not all in lacks bytes
 pub lacks-bytes : (left : ℕ) (s : Summary) → 0 < s .declared → bytesIn left (Record s) ≡ 0 → left < s .declared
-unfolding bytesIn
+unfolding bytesIn declaredBy
 lacks-bytes left s some no-bytes = by (leb (s .declared) left) refl no-bytes
   where
     by : (b : Bool) → leb (s .declared) left ≡ b → cond b (s .declared) 0 ≡ 0 → left < s .declared
@@ -59,52 +68,38 @@ module _ (bs : List ℕ) (word flags left : ℕ) where
   abbrev head : Head
   head = headWith bs word flags
 
-  pub none-ended : word ≡ noWord → 0 ≡ bytesIn left head
+  -- with fewer than it declares, none is; else they are those
+  pub none-short : left < declaredBy head → 0 ≡ bytesIn left head
   unfolding bytesIn
-  none-ended e = sym (ap (bytesIn left) (head-ended bs word flags e))
+  none-short h = rw (lt-leb (declaredBy head) left h)
 
-  module _ (there : word ≡ noWord → ⊥) where
-    pub none-sizeless : sizeOf bs word flags ≤ lacking → 0 ≡ bytesIn left head
-    unfolding bytesIn
-    none-sizeless h = by (sizeOf bs word flags) refl h
-      where
-        by : (size : ℕ) → sizeOf bs word flags ≡ size → size ≤ lacking → 0 ≡ bytesIn left head
-        by zero e g = sym (ap (bytesIn left) (head-bad-type bs word flags there e))
-        by (suc zero) e g = sym (ap (bytesIn left) (head-bad-header bs word flags there e))
-        by (suc (suc n)) e g = absurd (omega arith)
-
-    module _ (found : lacking < sizeOf bs word flags) where
-      abbrev declared : ℕ
-      declared = declaredOf bs flags
-
-      said : bytesIn left head ≡ cond (leb declared left) declared 0
-      unfolding bytesIn
-      said = ap (bytesIn left) (head-record bs word flags there found)
-
-      pub none-short : left < declared → 0 ≡ bytesIn left head
-      none-short h = sym (said ∙ rw (lt-leb declared left h))
-
-      pub all-in : declared ≤ left → declared ≡ bytesIn left head
-      all-in h = sym (said ∙ rw (le-leb declared left h))
+  pub all-in : declaredBy head ≤ left → declaredBy head ≡ bytesIn left head
+  unfolding bytesIn
+  all-in h = rw (le-leb (declaredBy head) left h)
 
   -- what is all in has its header
   module _ (some : 0 < bytesIn left head) where
-    pub word-there : word ≡ noWord → ⊥
-    word-there e = let none : 0 ≡ bytesIn left head = none-ended e in omega arith
+    fits : declaredBy head ≤ left
+    fits = ⊎-elim (λ h. h) (λ h. let none : 0 ≡ bytesIn left head = none-short h in absurd (omega arith)) (le-or-lt (declaredBy head) left)
+
+    declares : 0 < declaredBy head
+    declares = rw (all-in fits) some
 
     pub header-there : lacking < sizeOf bs word flags
-    header-there = ⊎-elim (λ h. let none : 0 ≡ bytesIn left head = none-sizeless word-there h in absurd (omega arith)) (λ h. h) (le-or-lt (sizeOf bs word flags) lacking)
+    header-there = heads.header-there bs word flags declares
+
+    says : declaredOf bs flags ≡ declaredBy head
+    says = declared-record bs word flags (heads.word-there bs word flags declares) header-there
 
     pub bytes-there : declaredOf bs flags ≤ left
-    bytes-there =
-        ⊎-elim (λ h. h) (λ h. let none : 0 ≡ bytesIn left head = none-short word-there header-there h in absurd (omega arith)) (le-or-lt (declaredOf bs flags) left)
+    bytes-there = rw says fits
 
     -- and is that record
     pub read-record : head ≡ Record (summaryOf bs word flags)
-    read-record = head-record bs word flags word-there header-there
+    read-record = head-record bs word flags (heads.word-there bs word flags declares) header-there
 
     pub read-bytes : bytesIn left head ≡ declaredOf bs flags
-    read-bytes = sym (all-in word-there header-there bytes-there)
+    read-bytes = sym (says ∙ all-in fits)
 
 -- a record that is all in leaves the listing whole but where it is a Box whose header exceeds it
 pub keeps-whole : (offset left : ℕ) (s : Summary) → s .declared ≤ left
@@ -133,7 +128,7 @@ module _ (rules bytes : List ℕ) (offset : ℕ) where
 
   -- the bytes of a record are those that its header declares
   full-bytes : (r : Span) → topTry rules bytes offset ≡ hit r → r .declared ≤ length bytes → bytesIn (length bytes) here ≡ r .declared
-  unfolding bytesIn
+  unfolding bytesIn declaredBy
   full-bytes r e h = ap (bytesIn (length bytes)) (top-whence rules bytes offset r e .is) ∙ rw (le-leb (r .declared) (length bytes) h)
 
   pub waits-here : bytesIn (length bytes) here ≡ 0 → arrived rules bytes offset ≡ []

@@ -1,14 +1,11 @@
 -- What the inner functions of the receiver give: a record that is all in, those of some bytes, and what is kept after them.
 use Prim.Native.Nat.{ℕ, _+_, _-_}
-use mathlib.Core.Path.{_≡_}
 use mathlib.Core.List.{List, _++_}
 use mathlib.Core.Bool.{Bool, cond, _&&_}
 use lib.Dec.{eqb, leb}
 use lib.ListN.{length, take, drop, replicate}
-use Rattle.rules.specs.Rules.{flagsOf}
-use Rattle.header_judge.specs.Version.{noWord}
+use Rattle.header_judge.specs.Head.{declaredBy}
 use Rattle.header_judge.specs.declared.Head.{Head}
-use Rattle.header_judge.specs.declared.Head.the-variants.{Ended, BadHeader, BadType, Record}
 use Rattle.region_rows.specs.Rows.{withSpan, stored, laid}
 use Rattle.region_try.specs.Stops.{stopBy, badTypeBy}
 use Rattle.region_try.specs.Tries.{Try, none, hit, rowsFound}
@@ -24,16 +21,9 @@ use Rattle.receiver.specs.Calls.{mostKept, keptOf}
 use Rattle.receiver.specs.declared.pass.Passed.{Passed}
 use Rattle.receiver.specs.declared.piece.Moved.{Moved}
 
--- the flags of a word are known, if it is one
-abbrev pub Known : List ℕ → ℕ → ℕ → Type 0
-Known rules word flags = (word ≡ noWord → ⊥) → flags ≡ flagsOf rules word
-
 -- the bytes of the record that a header declares, where so many have come: 0 where it declares none, or more
 unfoldable pub bytesIn : ℕ → Head → ℕ
-bytesIn left (Ended ending) = 0
-bytesIn left BadHeader = 0
-bytesIn left (BadType t) = 0
-bytesIn left (Record s) = cond (leb (s .declared) left) (s .declared) 0
+bytesIn left head = cond (leb (declaredBy head) left) (declaredBy head) 0
 
 -- a pass over some bytes that start at an offset: the table with the rows of the records that are all in, from one on, how many rows there are then,
 -- where the records end, and whether all is whole so far

@@ -8,7 +8,8 @@ ghost use lib.ListN.{length, take};
 ghost use Rattle.rules.specs.Columns.{rulesIn};
 ghost use Rattle.header_judge.specs.Version.{wordOf};
 ghost use Rattle.header_judge.specs.Head.{headOf};
-ghost use Rattle.receiver.specs.Steps.{Known, bytesIn, movedOf};
+ghost use Rattle.header_judge.specs.Steps.{Known};
+ghost use Rattle.receiver.specs.Steps.{bytesIn, movedOf};
 ghost use Rattle.receiver.specs.Calls.{shutDown, inBounds, sound, heldIn, waitingOf, rulesAt, usable, startOut, takenIn, fedAs, feedOut, finishOut};
 
 pub mod last;

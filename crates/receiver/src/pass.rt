@@ -4,13 +4,11 @@ ghost use Prim.Native.Nat.{_+_, _*_, _≤_, _<_, _^_};
 ghost use lib.ListN.{length};
 ghost use Rattle.rules.specs.Columns.{rulesIn};
 ghost use Rattle.header_judge.specs.Head.{sizeOf, summaryOf, headWith};
-ghost use Rattle.header_judge.specs.Steps.{Measured};
+ghost use Rattle.header_judge.specs.Steps.{Known, Measured};
 ghost use Rattle.region_rows.specs.Rows.{width, top, withSpan};
 ghost use Rattle.region_try.specs.Tries.{hit, spanOf};
 ghost use Rattle.region_try.specs.Whole.{keepsWhole};
-ghost use Rattle.receiver.specs.Steps.{Known, bytesIn, passOf};
-use header_judge::LACKING;
-use header_judge::version::NO_WORD;
+ghost use Rattle.receiver.specs.Steps.{bytesIn, passOf};
 use header_judge::version::word_of;
 use region_rows::TOP;
 use rules::columns::NUMBERS;
@@ -42,13 +40,7 @@ pub fn bytes_in(s: &[u8], word: u32, flags: u32, size: usize, left: usize) -> us
     ensures { λ r. ⌜ r ≡ bytesIn left (headWith (now (s .entry)) word flags) ⌝ }
     ensures { λ r. ⌜ r ≤ 524280 ⌝ }
 {
-    if word == NO_WORD {
-        return 0;
-    }
-    if size <= LACKING {
-        return 0;
-    }
-    let declared = header_judge::declared_of(s, flags);
+    let declared = header_judge::declared_in(s, word, flags, size);
     if left < declared {
         return 0;
     }

@@ -1,6 +1,6 @@
 -- A run from the start gives the listing: rows laid one after the other are the rows shown, laid at once.
 -- By induction over the tries, and over the rows. Assumes nothing.
-use mathlib.Core.Path.{_≡_, refl, ap, sym, _∙_}
+use mathlib.Core.Path.{_≡_, refl, ap, sym, subst, _∙_}
 use mathlib.Core.List.{List, [], _∷_}
 use mathlib.Core.Logic.{⊎-elim}
 use mathlib.Core.Bool.{Bool, true, false, cond, _&&_, and-true, and-false}
@@ -24,7 +24,7 @@ use Rattle.region_try.specs.Whole.{keepsWhole, allKeepWhole}
 use Rattle.region_try.specs.Steps.{Walk, state, step, run}
 use Rattle.region_walk.specs.Steps.{endWhere, regionEnd}
 use Rattle.region_walk.specs.declared.Walked.{Walked}
-use Rattle.region.specs.Listing.{numberOf, answerOf, topStands, Shown, tried, triedRow, shown, refusal, walked, listed}
+use Rattle.region.specs.Listing.{numberOf, answerOf, topStands, Shown, tried, triedRow, shown, refusal, listingAt, walked, listed}
 use Rattle.region.specs.declared.Answer.the-variants.{TooLong, BadRules}
 use Rattle.region.specs.declared.Listing.{Listing}
 use Rattle.region_try.specs.declared.Cut.{Cut}
@@ -228,11 +228,9 @@ module _ (rules bytes : List ℕ) (limit : ℕ) (t : List ℕ) where
         run-shows limit (min (capacity t) mostRows) (regionTries rules deepest bytes 0 top 0) t 0 0 true
         ∙ rw (sub-zero limit, sub-zero (min (capacity t) mostRows), uncapped, zero-add (length (all .rows)), zero-add (all .tries), laid-eq)
 
-    -- a listing made of the end of a run
+    -- the table and the listing at the end of a walk
     abbrev made : List ℕ × Walked → List ℕ × Listing
-    made m =
-        let answer = answerOf (m .1 .cut) (m .1 .rows) (m .1 .stop) (m .1 .«bad_type») in
-        (m .0, record { answer = answer; rows = m .1 .rows; tries = m .1 .tries; whole = eqb (numberOf answer) 0 && m .1 .whole; stop = m .1 .stop })
+    made m = (m .0, listingAt (m .1))
 
     walked-eq : made (endWhere (topStands rules bytes) (laid (all .rows) t, state (length (all .rows)) (all .tries) (marked true (all .cut) (allTries rules bytes)) (all .cut)))
         ≡ walked rules bytes limit t
@@ -265,3 +263,8 @@ rows-fit rules bytes limit t =
     listed-cases (λ (x : List ℕ × Listing). x .1 .rows * width ≤ length t) rules bytes limit t (omega arith) (omega arith)
     (let a : length (shown limit (capacity t) (allTries rules bytes) .rows) ≤ capacity t = shown-room limit (capacity t) (allTries rules bytes) in
     omega (arith, div-mul-le-self (length t) width))
+
+-- and so do those of what is the listing
+pub with-fit : (rules bytes : List ℕ) (limit : ℕ) (t : List ℕ) {x : List ℕ × Listing} → x ≡ listed rules bytes limit t
+    → (x ≡ listed rules bytes limit t) × (x .1 .rows * width ≤ length t)
+with-fit rules bytes limit t e = (e, subst (λ (y : List ℕ × Listing). y .1 .rows * width ≤ length t) (sym e) (rows-fit rules bytes limit t))

@@ -16,6 +16,7 @@ use Rattle.region_try.specs.Whole.{allKeepWhole}
 use Rattle.region_try.specs.declared.Cut.{Cut}
 use Rattle.region_try.specs.declared.Cut.the-variants.{Going, Full, Spent}
 use Rattle.region_try.specs.declared.stop.Stop.{Stop}
+use Rattle.region_walk.specs.declared.Walked.{Walked}
 use Rattle.region.specs.declared.Answer.{Answer}
 use Rattle.region.specs.declared.Answer.the-variants.{Done, TooLong, BadRules, BadHeader, BadType, Empty, SpansFull, TriesSpent}
 use Rattle.region.specs.declared.Listing.{Listing}
@@ -116,6 +117,12 @@ listingTold l = l .rows ∷ l .tries ∷ typeOf (l .answer) ∷ bit (l .whole) �
 
 abbrev pub refusal : Answer → Listing
 refusal answer = record { answer = answer; rows = 0; tries = 0; whole = false; stop = Stop.Untold }
+
+-- the listing at the end of a whole input's walk
+abbrev pub listingAt : Walked → Listing
+listingAt end =
+    let answer = answerOf (end .cut) (end .rows) (end .stop) (end .«bad_type») in
+    record { answer = answer; rows = end .rows; tries = end .tries; whole = eqb (numberOf answer) 0 && end .whole; stop = end .stop }
 
 -- the table with the rows laid at its start, and the listing
 abbrev pub showing : List ℕ → List ℕ → List ℕ → Shown → List ℕ × Listing

@@ -3,7 +3,7 @@ ghost use mathlib.Core.Path.{_≡_};
 ghost use Prim.Native.Nat.{_*_, _≤_, _<_};
 ghost use lib.ListN.{length};
 ghost use Rattle.region_rows.specs.Rows.{width};
-ghost use Rattle.region.specs.Listing.{numberOf, typeOf, answerWithout, answerOf, listingTold, refusal, listed};
+ghost use Rattle.region.specs.Listing.{numberOf, typeOf, answerWithout, answerOf, listingTold, refusal, listingAt, listed};
 use answers::MOST_BYTES;
 use header_judge::version::bit_of;
 use region_rows::TOP;
@@ -11,6 +11,7 @@ use region_try::Cut;
 use region_try::stop::Stop;
 use region_try::stop::stop_number;
 use region_walk::DEEPEST;
+use region_walk::Walked;
 
 // What a listing answers.
 pub enum Answer {
@@ -125,6 +126,22 @@ pub fn refused(answer: Answer) -> Listing
     }
 }
 
+// The listing of a whole input's walk.
+pub fn listing_at(end: Walked) -> Listing
+    ensures { λ r. ⌜ r ≡ listingAt end ⌝ }
+{
+    let cut = end.cut;
+    let stop = end.stop;
+    let answer = answer_of(cut, end.rows, stop, end.bad_type);
+    Listing {
+        answer: answer,
+        rows: end.rows,
+        tries: end.tries,
+        whole: (number_of(answer) == answers::DONE) & end.whole,
+        stop: stop,
+    }
+}
+
 // The nested listing of a region; its rows fit the table.
 pub fn list(region: &[u8], rules: &[u32], limit: u64, spans: &mut [u32]) -> Listing
     ensures { λ r. ⌜ (now (spans .exit), r) ≡ listed (now (rules .entry)) (now (region .entry)) limit (now (spans .entry)) ⌝ }
@@ -139,7 +156,7 @@ pub fn list(region: &[u8], rules: &[u32], limit: u64, spans: &mut [u32]) -> List
     let columns = rules::columns::columns_of(rules);
     let rule_rows = rules.len() / rules::NUMBERS_IN_RULE;
     let bounds = region_walk::bounds_of(limit, region_rows::room_of(spans), rule_rows);
-    let end = region_walk::region_walk(
+    listing_at(region_walk::region_walk(
         region,
         &columns,
         &bounds,
@@ -150,15 +167,5 @@ pub fn list(region: &[u8], rules: &[u32], limit: u64, spans: &mut [u32]) -> List
         TOP,
         0,
         spans,
-    );
-    let cut = end.cut;
-    let stop = end.stop;
-    let answer = answer_of(cut, end.rows, stop, end.bad_type);
-    Listing {
-        answer: answer,
-        rows: end.rows,
-        tries: end.tries,
-        whole: (number_of(answer) == answers::DONE) & end.whole,
-        stop: stop,
-    }
+    ))
 }

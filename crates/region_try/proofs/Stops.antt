@@ -32,6 +32,11 @@ pub stands-here : (level parent offset left : ℕ) (head : Head) {l o : ℕ} {h 
 unfolding standsAt
 stands-here level parent offset left head {l} vs e = rw (e, eq-eqb l level (none-level level parent offset left head e))
 
+-- one of another level
+pub stands-past : (l : ℕ) {level offset : ℕ} {head : Head} {v : Try} (vs : List Try) → v ≡ none level offset head → (level ≡ l → ⊥) → standsAt l (v ∷ vs) ≡ standsAt l vs
+unfolding standsAt
+stands-past l {level} vs e f = rw (e, ne-eqb level l f)
+
 -- ---- inside a Box
 
 -- tries that have no say in what stands where a level stops

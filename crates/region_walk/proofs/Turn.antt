@@ -13,12 +13,12 @@ use lib.ListN.{length, take, drop, length-take, length-drop}
 use lib.Seq.{drop-drop, take-all, take-length}
 use borrow.Author.Tests.{ltb-true, ltb-false}
 use Rattle.basics.proofs.Parts.{tail-part}
-use Rattle.rules.specs.Rules.{flagsOf}
-use Rattle.header_judge.specs.Version.{noWord, wordOf}
+use Rattle.header_judge.specs.Version.{wordOf}
 use Rattle.header_judge.specs.Head.{headWith, headOf}
+use Rattle.header_judge.specs.Steps.{Known}
 use Rattle.region_try.proofs.Cut.{the-type as cut-type}
 use Rattle.region_rows.specs.declared.Span.{Span}
-use Rattle.region_try.specs.Stops.{Standing, unknown, noByte, standingTold}
+use Rattle.region_try.specs.Stops.{Standing, noByte}
 use Rattle.region_try.specs.Tries.{Try, hit, tryOf, deepest, rowsFound, within, records, boxTries, regionTries}
 use Rattle.region_try.specs.Whole.{cleanStop, keepsWhole}
 use Rattle.region_try.specs.Steps.{Walk, state, tryAt, found, counted, step, run, boxWhole, RowBounds}
@@ -33,11 +33,12 @@ use Rattle.header_judge.proofs.Heads.{head-known}
 use Rattle.region_try.proofs.Heads.{Whence, hit-whence}
 use Rattle.region_try.proofs.Finds.{Hit, found-nothing, found-row}
 use Rattle.region_try.proofs.Tries.{records-end, records-first, records-stop, records-hit, within-plain, within-box, box-open}
-use Rattle.region_try.proofs.Stops.{stands-none, stands-hit, stands-here, past-within, past-box}
+use Rattle.region_try.proofs.Stops.{stands-hit, past-within, past-box}
 use Rattle.region_try.proofs.Whole.{keeps-stop, keeps-plain, keeps-box}
 use Rattle.region_try.proofs.Runs.{spent-going, full-going, step-spent, step-made, run-none, run-cons, run-append, run-cut, run-rows}
-use Rattle.region_walk.specs.Steps.{walkEnd, endTelling, endWhere, standsIn, regionEnd}
+use Rattle.region_walk.specs.Steps.{walkEnd, endWhere, standsIn, regionEnd}
 use Rattle.region_walk.specs.declared.Walked.{Walked}
+use Rattle.region_walk.proofs.Ends.{cutOff, end-cut, ends-none, ends-cut, ends-stop}
 
 -- ---- parts of a list
 
@@ -62,20 +63,6 @@ held-fits bs base at k h g =
     let a : length (take k (drop at bs)) ≡ min k (length (drop at bs)) = length-take k (drop at bs) in
     let b : length (drop at bs) ≡ length bs - at = length-drop at bs in
     omega arith
-
--- ---- a walk that is cut off
-
--- its end, of which nothing is told
-abbrev cutOff : Walk → List ℕ × Walked
-cutOff m = endTelling unknown m
-
-cut-unknown : (cut : Cut) (standing : Standing) → (cut ≡ Going → ⊥) → standingTold cut standing ≡ unknown
-cut-unknown Going standing f = absurd (f refl)
-cut-unknown Full standing f = refl
-cut-unknown Spent standing f = refl
-
-end-cut : (standing : Standing) (m : Walk) → (m .1 .cut ≡ Going → ⊥) → endWhere standing m ≡ cutOff m
-end-cut standing m f = ap (λ (s : Standing). endTelling s m) (cut-unknown (m .1 .cut) standing f)
 
 -- ---- a Box that is opened
 
@@ -152,7 +139,7 @@ module _ (p : Place) where
     rest-end h =
         ap (λ (vs : List Try). ends vs here)
         (records-end (p .rules) (boxTries (p .rules) (p .levels)) (p .levels) (p .parent) (left at) (p .base + at) rows (simp length-drop (omega arith)))
-        ∙ ap₂ endWhere (stands-none _) (run-none (p .limit) (p .room) here)
+        ∙ ends-none (p .limit) (p .room) (p .levels) here
 
     -- the first try of what is left, and the others
     ahead : at < length (p .bytes) → (vs : List Try) × (outer at rows ≡ tryFrom at ∷ vs)
@@ -163,11 +150,7 @@ module _ (p : Place) where
     rest-cut h m e f =
         let a = ahead h in
         ap (λ (vs : List Try). ends vs here) (a .1)
-        ∙ ap (endWhere (stands (tryFrom at ∷ a .0)))
-        (run-cons (p .limit) (p .room) (tryFrom at) (a .0) here
-        ∙ ap (λ (k : Walk). runs (a .0) k) e
-        ∙ run-cut (p .limit) (p .room) (a .0) m f)
-        ∙ end-cut (stands (tryFrom at ∷ a .0)) m f
+        ∙ ends-cut (p .limit) (p .room) (p .levels) (tryFrom at) here m e (a .0) f
 
     pub rest-spent : at < length (p .bytes) → p .limit ≤ tries → rest at t rows tries whole ≡ (t, walkEnd rows tries false Spent Untold 0)
     rest-spent h g = rest-cut h (t, state rows tries false Spent) (step-spent (p .limit) (p .room) (tryFrom at) t rows tries whole g) spent-going
@@ -242,11 +225,9 @@ module _ {p : Place} {at : ℕ} {t t₁ : List ℕ} {rows tries : ℕ} {f : Foun
       let n = found-nothing (p .room) rows t t₁ stop type (tryFrom p at) (rw e at (y .gave)) in
       ap (λ (vs : List Try). ends p vs (t, state rows tries whole Going))
       (records-stop (p .rules) (boxTries (p .rules) (p .levels)) (p .levels) (p .parent) (left p at) (p .base + at) rows some-left (n .is))
-      ∙ ap₂ endWhere (stands-here (deepest - p .levels) (p .parent) (p .base + at) (length (left p at)) (headOf (p .rules) (left p at)) [] (n .is))
-      (run-cons (p .limit) (p .room) (tryFrom p at) [] (t, state rows tries whole Going)
-      ∙ run-none (p .limit) (p .room) (step (p .limit) (p .room) (tryFrom p at) (t, state rows tries whole Going))
-      ∙ made
-      ∙ ap (λ (k : Found). (t₁, counted rows (tries + 1) (whole && keepsWhole (tryFrom p at)) k)) e)
+      ∙ ends-stop (p .limit) (p .room) (p .levels) (p .parent) (p .base + at) (length (left p at)) (headOf (p .rules) (left p at)) (t, state rows tries whole Going)
+      (t₁, state rows (tries + 1) (whole && keepsWhole (tryFrom p at)) Going) (n .is)
+      (made ∙ ap (λ (k : Found). (t₁, counted rows (tries + 1) (whole && keepsWhole (tryFrom p at)) k)) e)
       ∙ rw (keeps-stop n, ← n .why, ← n .bad)
 
   module _ {h d z : ℕ} {b : Bool} (e : f ≡ Row h d z b) where
@@ -327,7 +308,7 @@ module _ (p : Place) (at word flags : ℕ) where
   part = take (length (p .bytes) - at) (left p at)
 
   pub tried-at : {t t₁ : List ℕ} {rows tries : ℕ} {f : Found} → p .levels ≤ deepest → at < length (p .bytes) → tries < p .limit
-      → word ≡ wordOf part → ((word ≡ noWord → ⊥) → flags ≡ flagsOf (p .rules) word)
+      → word ≡ wordOf part → Known (p .rules) word flags
       → _≡_ {A = List ℕ × Found} (t₁, f) (found (p .room) rows (tryAt (deepest - p .levels) (p .parent) (p .base + at) part word flags) t)
       → RowBounds f → Tried p at t t₁ rows tries f
   tried-at deep within due is-word is-flags gave bounded =

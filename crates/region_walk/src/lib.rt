@@ -42,7 +42,7 @@ pub struct Walked {
     pub bad_type: u32,
 }
 
-fn walk_end(rows: u32, tries: u64, whole: bool, cut: Cut, stop: Stop, bad_type: u32) -> Walked
+pub fn walk_end(rows: u32, tries: u64, whole: bool, cut: Cut, stop: Stop, bad_type: u32) -> Walked
     ensures { λ r. ⌜ r ≡ walkEnd rows tries whole cut stop «bad_type» ⌝ }
 {
     Walked {

@@ -3,7 +3,7 @@
 use mathlib.Core.Path.{_≡_, sym, subst, _∙_}
 use mathlib.Core.List.{List}
 use mathlib.Core.Bool.{true, false}
-use Prim.Native.Nat.{ℕ, _*_, _/_, _≤_}
+use Prim.Native.Nat.{ℕ, _/_}
 use native.Mathlib.Omega.{arith}
 use borrow.Author.Tests.{not-true, not-false}
 use denote.Ref.{now}
@@ -12,18 +12,10 @@ use Rattle.rules.specs.Rules.{validOf}
 use Rattle.rules.specs.Columns.{columnsOf, Blank}
 use Rattle.rules.proofs.Laws.{valid-rows}
 use Rattle.rules.proofs.ColumnRows.{Holds, columns-hold}
-use Rattle.region_rows.specs.Rows.{width}
-use Rattle.region.specs.Listing.{listed}
-use Rattle.region.specs.declared.Listing.{Listing}
-use Rattle.region.proofs.Shows.{listed-long, listed-rules, listed-run, rows-fit}
+use Rattle.region.proofs.Shows.{listed-long, listed-rules, listed-run, with-fit}
 use borrow.Author.Needs.{needs}
 use Rattle.region.proofs.list.Statement.{statement}
 use Rattle.region.proofs.list.Tie as tie
-
--- what is the listing has rows that fit
-with-fit : (rules bytes : List ℕ) (limit : ℕ) (t : List ℕ) {x : List ℕ × Listing} → x ≡ listed rules bytes limit t
-    → (x ≡ listed rules bytes limit t) × (x .1 .rows * width ≤ length t)
-with-fit rules bytes limit t e = (e, subst (λ (y : List ℕ × Listing). y .1 .rows * width ≤ length t) (sym e) (rows-fit rules bytes limit t))
 
 returns : tie.Need-returns
 returns c =
@@ -83,15 +75,14 @@ region-walk-requires c κs =
 
 returns-3 : tie.Need-returns-3
 returns-3 c =
-    let answered = c .before .before in
-    let walk = answered .before .before .before in
+    let walk = c .before .before .before in
     let bounds = walk .before .before .before .before in
     let columns = bounds .before .before .before in
     let passed = columns .before in
     let a = start (passed .before) .args in
     let y = walk .region-walk in
     with-fit (now (a .rules)) (now (a .region)) (a .limit) (now (a .spans))
-    (rw (c .before .number-of .ensures .0, answered .answer-of .ensures)
+    (rw (c .listing-at .ensures)
     (listed-run (now (a .rules)) (now (a .region)) (a .limit) (now (a .spans)) (omega arith) (good passed) (y .last .1 .1 .1 .1 .1 .1 .1 .1 .1 .0, y .result)
     (rw (bounds .bounds-of .ensures, bounds .before .room-of .ensures, columns .columns-of .ensures, held passed .held) at (y .ensures))))
 
@@ -108,7 +99,6 @@ list-spec =
     (λ c κs. search needs)
     (λ c κs. search needs)
     region-walk-requires
-    (λ c κs. search needs)
     (λ c κs. search needs)
     (λ c. search needs)
     returns-3)

@@ -13,7 +13,7 @@ use denote.Ref.{now}
 use Rattle.basics.proofs.Parts.{tail-part}
 use Rattle.rules.specs.Rules.{flagsOf}
 use Rattle.header_judge.proofs.Heads.{remembered}
-use Rattle.header_judge.specs.Version.{noWord}
+use Rattle.header_judge.specs.Steps.{Known}
 use Rattle.region_try.proofs.Tries.{box-deep, box-short}
 use Rattle.region_try.proofs.Runs.{run-empty}
 use Rattle.region_try.proofs.Whole.{box-shut, box-header, box-opens}
@@ -111,7 +111,7 @@ placed bytes rules bounds base levels parent =
 
 -- the invariant: what is left of the region, run from here, ends as the whole does; and the flags of the last word are known
 record Going-on (p : Place) (t₀ : List ℕ) (start : List ℕ × Walked) (t : List ℕ) (rows tries : ℕ) (whole : Bool) (last known at : ℕ) : Type 0 where
-  flags : (last ≡ noWord → ⊥) → known ≡ flagsOf (p .rules) last
+  flags : Known (p .rules) last known
   same : length t ≡ length t₀
   ends : start ≡ rest p at t rows tries whole
 
@@ -165,12 +165,12 @@ module _ (t : ℕ) (c : InRegion region.After-try-at t) where
 
   -- the word's flags are known
   known : (joined .if2 .last ≡ read .word-of .result)
-      × ((read .word-of .result ≡ noWord → ⊥) → joined .if2 .known ≡ flagsOf (place t start .rules) (read .word-of .result))
+      × Known (place t start .rules) (read .word-of .result) (joined .if2 .known)
   known =
       remembered (place t start .rules) (read .word-of .result) (loop .loop .last) (loop .loop .known) (joined .if2 .last) (joined .if2 .known) (loop .loop .inv .flags)
       (⊎-elim (λ q. inl (q .3, q .4 ∙ q .2 .ensures)) (λ q. inr (q .0 .left, q .1, q .2)) (joined .if2 .came))
 
-  kept : (joined .if2 .last ≡ noWord → ⊥) → joined .if2 .known ≡ flagsOf (place t start .rules) (joined .if2 .last)
+  kept : Known (place t start .rules) (joined .if2 .last) (joined .if2 .known)
   kept n = known .1 (λ e. n (known .0 ∙ e)) ∙ ap (flagsOf (place t start .rules)) (sym (known .0))
 
   -- the table of rows is as long as at the start

@@ -15,7 +15,8 @@ use Rattle.header_judge.proofs.Heads.{head-known}
 use Rattle.region_rows.specs.Rows.{top, withSpan}
 use Rattle.region_try.specs.Tries.{hit, spanOf}
 use Rattle.region_try.specs.Whole.{keepsWhole}
-use Rattle.receiver.specs.Steps.{Known, bytesIn, passOf}
+use Rattle.header_judge.specs.Steps.{Known}
+use Rattle.receiver.specs.Steps.{bytesIn, passOf}
 use Rattle.receiver.proofs.Records.{bytes-there, read-record, read-bytes}
 use Rattle.receiver.proofs.Passes.{passFrom, from-start, from-end, from-none, from-record}
 use borrow.Author.Needs.{needs}
