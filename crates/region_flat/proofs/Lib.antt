@@ -1,0 +1,4 @@
+pub mod Due
+pub mod Turn
+pub mod Parts
+pub mod Same
