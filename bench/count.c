@@ -1,8 +1,10 @@
 /* One call of the library or of plain C, on the numbers of a rule table and the bytes that stand on standard input:
  *
  *     count library|plain list|normalise|receive
+ *     count flat list
  *
- * To receive is to make a call for each piece of 64 bytes. bench/count counts the instructions. */
+ * 'flat' is the library's walk that takes a small stack. To receive is to make a call for each piece of 64 bytes. bench/count
+ * counts the instructions. */
 #include <stdbool.h>
 #include <unistd.h>
 
@@ -22,6 +24,14 @@ static size_t filled(void *from, size_t room)
     while ((more = read(0, (uint8_t *)from + held, room - held)) > 0)
         held += (size_t)more;
     return held;
+}
+
+static uint32_t list(char whose, size_t length)
+{
+    crashlog_listing told;
+    uint64_t room = sizeof spans / sizeof *spans;
+    return (whose == 'l' ? crashlog_list : whose == 'f' ? crashlog_list_flat : plain_list)(
+        bytes, length, table.rules, table.numbers, UINT64_MAX, spans, room, &told);
 }
 
 static uint32_t receive(bool library, size_t length)
@@ -44,11 +54,8 @@ int main(int count, char **words)
     filled(table.rules, table.numbers * sizeof *table.rules);
     size_t length = filled(bytes, sizeof bytes);
     bool library = words[1][0] == 'l';
-    if (words[2][0] == 'l') {
-        crashlog_listing told;
-        uint64_t room = sizeof spans / sizeof *spans;
-        return (library ? crashlog_list : plain_list)(bytes, length, table.rules, table.numbers, UINT64_MAX, spans, room, &told);
-    }
+    if (words[2][0] == 'l')
+        return (int)list(words[1][0], length);
     if (words[2][0] == 'r')
         return (int)receive(library, length);
     uint64_t written;

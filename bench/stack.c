@@ -1,6 +1,7 @@
 /* The peak stack of each function of crashlog.h. The stack below a call is painted; afterwards it is seen how far down the
  * paint is gone. A function's figure is the most over calls of all kinds: each header type and layout, Boxes deeper than they
- * are opened, pieces of each length, short and long bodies, refusals. */
+ * are opened, pieces of each length, short and long bodies, refusals. Status 1 if list_flat, which is for small stacks, uses
+ * too much. */
 #include <stdio.h>
 
 #include "crashlog.h"
@@ -8,6 +9,7 @@
 #define DEPTH 65536
 #define PAINT 0xa5
 #define NESTED 6
+#define TOO_MUCH_FOR_FLAT 600
 
 static uint8_t bytes[CRASHLOG_MOST_BYTES + 1], out[CRASHLOG_MOST_BYTES];
 static uint32_t rules[CRASHLOG_RULE_WORDS * CRASHLOG_MOST_RULES];
@@ -26,6 +28,7 @@ static size_t most;
 
 static void nothing(void) {}
 static void list(void) { crashlog_list(bytes, length, rules, rules_len, limit, spans, room, &listed); }
+static void list_flat(void) { crashlog_list_flat(bytes, length, rules, rules_len, limit, spans, room, &listed); }
 static void start(void) { crashlog_receiver_start(&receiver, rules, rules_len); }
 static void feed(void) { crashlog_receiver_feed(&receiver, bytes + from, length, arrived, room, &count); }
 static void finish(void) { crashlog_receiver_finish(&receiver, arrived, room, &listed); }
@@ -57,10 +60,13 @@ static void try(void (*call)(void))
         most = used;
 }
 
-static void tell(const char *function)
+/* Prints a function's figure, and gives it. */
+static unsigned tell(const char *function)
 {
-    printf("| %s | %u |\n", function, (unsigned)most);
+    unsigned used = (unsigned)most;
+    printf("| %s | %u |\n", function, used);
     most = 0;
+    return used;
 }
 
 static void put16(size_t at, size_t x)
@@ -93,7 +99,7 @@ static void put_record(size_t at, uint32_t type, size_t size)
 }
 
 /* Boxes in Boxes, each with the next one after its header. */
-static void try_nest(uint32_t type, uint32_t flags, size_t header_size)
+static void try_nest(void (*call)(void), uint32_t type, uint32_t flags, size_t header_size)
 {
     for (size_t i = 0; i < NESTED; i++)
         put_record(i * header_size, type, (NESTED - i) * header_size);
@@ -101,20 +107,20 @@ static void try_nest(uint32_t type, uint32_t flags, size_t header_size)
     length = NESTED * header_size;
     for (limit = 0; limit < NESTED; limit++)
         for (room = 0; room <= sizeof spans / sizeof spans[0]; room += CRASHLOG_SPAN_WORDS)
-            try(list);
+            try(call);
 }
 
-static void try_lists(void)
+static void try_lists(void (*call)(void))
 {
     static const uint8_t sizes[7] = {8, 8, 24, 28, 32, 32, 64};
     for (uint32_t type = 0; type < 7; type++)
-        try_nest(type, 0, sizes[type]);
-    try_nest(0, CRASHLOG_LEGACY_SERVER | CRASHLOG_LEGACY_SERVER_BOX, 32);
-    try_nest(0, CRASHLOG_LEGACY_GPU, 32);
-    try_nest(7, 0, 8);
+        try_nest(call, type, 0, sizes[type]);
+    try_nest(call, 0, CRASHLOG_LEGACY_SERVER | CRASHLOG_LEGACY_SERVER_BOX, 32);
+    try_nest(call, 0, CRASHLOG_LEGACY_GPU, 32);
+    try_nest(call, 7, 0, 8);
+    try_nest(call, 1, 16, 8); /* no such flags */
     length = CRASHLOG_MOST_BYTES + 1;
-    try(list);
-    tell("list");
+    try(call);
 }
 
 /* Receives so many bytes of two records, of which the first is all in with a piece that starts in its body. */
@@ -214,7 +220,10 @@ static void try_cper(void (*call)(void))
 
 int main(void)
 {
-    try_lists();
+    try_lists(list);
+    tell("list");
+    try_lists(list_flat);
+    unsigned flat = tell("list_flat");
     try_receivers();
     try_headers(decode);
     tell("decode");
@@ -233,5 +242,8 @@ int main(void)
     for (room = 0; room <= sizeof rules / sizeof rules[0]; room += 64)
         try(intel_rules);
     tell("intel_rules");
-    return 0;
+    if (flat < TOO_MUCH_FOR_FLAT)
+        return 0;
+    fprintf(stderr, "stack: list_flat uses %u bytes, and must use fewer than %d\n", flat, TOO_MUCH_FOR_FLAT);
+    return 1;
 }

@@ -1,7 +1,7 @@
 /*
  * Tries the C interface: round trips of headers, the refusals, what is told with each answer, the endings, why a region stops,
- * when a listing is whole, its rooms, socket and die in its rows, the receiver, CPERs, names and Intel's rules. Prints nothing
- * and ends with status 0 when all is as include/crashlog.h says.
+ * when a listing is whole, its limits and rooms, socket and die in its rows, each listing by both walks, the receiver, CPERs,
+ * names and Intel's rules. Prints nothing and ends with status 0 when all is as include/crashlog.h says.
  */
 #include <stdio.h>
 #include <stdlib.h>
@@ -17,9 +17,17 @@
         }                                                                     \
     } while (0)
 
+static int all(const uint8_t *bytes, size_t length, uint8_t value)
+{
+    for (size_t i = 0; i < length; i++)
+        if (bytes[i] != value)
+            return 0;
+    return 1;
+}
+
 /*
- * What the last call told. Each of the functions below makes one call, after these were filled with other bytes: what a call
- * leaves unwritten is found by what it is expected to tell.
+ * What the last call told. Each of the functions below makes one call of what it is named after, after these were filled with
+ * other bytes: what a call leaves unwritten is found by what it is expected to tell.
  */
 static crashlog_listing listed;
 static crashlog_judged judged;
@@ -34,11 +42,27 @@ static void forget(void)
     memset(&count, 0xee, sizeof count);
 }
 
+/*
+ * Two calls, one of each walk: the flat one, with a table of its own, gives what the nested one gives, and leaves what lies
+ * past its rows.
+ */
 static uint32_t list(const uint8_t *region, uint64_t length, const uint32_t *rules, uint64_t rules_len, uint64_t limit,
                      uint32_t *spans, uint64_t spans_len)
 {
+    static uint32_t own[1501 * CRASHLOG_SPAN_WORDS];
+    const size_t row_bytes = CRASHLOG_SPAN_WORDS * sizeof own[0], all_bytes = spans_len * sizeof own[0] + row_bytes;
+    crashlog_listing flat;
+
+    EXPECT(all_bytes <= sizeof own);
+    memset(own, 0xaa, all_bytes);
+    memset(&flat, 0xee, sizeof flat);
+    uint32_t flat_answer = crashlog_list_flat(region, length, rules, rules_len, limit, spans ? own : NULL, spans_len, &flat);
     forget();
-    return crashlog_list(region, length, rules, rules_len, limit, spans, spans_len, &listed);
+    uint32_t answer = crashlog_list(region, length, rules, rules_len, limit, spans, spans_len, &listed);
+    EXPECT(flat_answer == answer && memcmp(&flat, &listed, sizeof flat) == 0);
+    EXPECT(flat.rows == 0 || memcmp(own, spans, flat.rows * row_bytes) == 0);
+    EXPECT(all((const uint8_t *)own + flat.rows * row_bytes, all_bytes - flat.rows * row_bytes, 0xaa));
+    return answer;
 }
 
 static uint32_t decode(const uint8_t *bytes, uint64_t length, const uint32_t *rules, uint64_t rules_len,
@@ -104,14 +128,6 @@ static int told_part(uint64_t offset, uint64_t length)
 static int same(const crashlog_header *a, const crashlog_header *b)
 {
     return memcmp(a, b, FIELD_BYTES) == 0;
-}
-
-static int all(const uint8_t *bytes, size_t length, uint8_t value)
-{
-    for (size_t i = 0; i < length; i++)
-        if (bytes[i] != value)
-            return 0;
-    return 1;
 }
 
 /* The same numbers in every run. */
@@ -445,6 +461,27 @@ static void rooms(void)
             EXPECT(spans[row * CRASHLOG_SPAN_WORDS + CRASHLOG_SPAN_OFFSET] == 8 * row);
         EXPECT(all((const uint8_t *)(spans + words), sizeof spans - words * sizeof spans[0], 0xaa));
     }
+}
+
+/* Boxes in each other, a try for each row, under each limit and in each room. */
+static void cuts(void)
+{
+    const uint64_t rows = 5;
+    uint8_t region[5 * 8];
+    uint32_t spans[6 * CRASHLOG_SPAN_WORDS];
+
+    for (uint64_t at = 0; at < sizeof region; at += 8)
+        memcpy(region + at, (uint8_t[8]){0x01, 0x31, 0x12, 0x3d, (uint8_t)((sizeof region - at) / 4)}, 8);
+    for (uint64_t limit = 0; limit <= rows + 1; limit++)
+        for (uint64_t room = 0; room <= rows + 1; room++) {
+            uint32_t answer = list(region, sizeof region, NULL, 0, limit, spans, room * CRASHLOG_SPAN_WORDS);
+            if (room < limit && room < rows)
+                EXPECT(answer == CRASHLOG_SPANS_FULL && told_listing(room, room + 1, 0, 0, CRASHLOG_STOP_UNTOLD));
+            else if (limit < rows)
+                EXPECT(answer == CRASHLOG_TRIES_SPENT && told_listing(limit, limit, 0, 0, CRASHLOG_STOP_UNTOLD));
+            else
+                EXPECT(answer == CRASHLOG_DONE && told_listing(rows, rows, 0, 1, CRASHLOG_STOP_END_OF_INPUT));
+        }
 }
 
 /* A row's socket and die. */
@@ -1071,6 +1108,7 @@ int main(void)
     stops();
     wholes();
     rooms();
+    cuts();
     origins();
     receivers();
     cpers();

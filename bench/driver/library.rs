@@ -95,6 +95,16 @@ exports!(
 
 unsafe extern "C" {
     fn crashlog_intel_rules(out: *mut u32, out_len: u64) -> u32;
+    fn crashlog_list_flat(
+        r: *const u8,
+        rn: u64,
+        t: *const u32,
+        tn: u64,
+        limit: u64,
+        s: *mut u32,
+        sn: u64,
+        told: *mut Listing,
+    ) -> u32;
 }
 
 /// The rule table of the published errata.
@@ -126,6 +136,9 @@ pub const PROVED: Library = Library {
     feed: crashlog_receiver_feed,
     finish: crashlog_receiver_finish,
 };
+
+/// The library, with the walk that takes a small stack.
+pub const FLAT: Library = Library { list: crashlog_list_flat, ..PROVED };
 
 pub const PLAIN: Library = Library {
     list: plain_list,

@@ -1,10 +1,10 @@
 //! The listing of a region.
 use crate::inputs::{self, BOX_BYTES, CONTENTS, HEADERS, MIB, RECORD, STOPS};
-use crate::library::{Library, Listing, PLAIN, PROVED};
+use crate::library::{FLAT, Library, Listing, PLAIN, PROVED};
 use crate::rust;
-use crate::sample::{C, Candidate, LIBRARY, Times, sample};
+use crate::sample::{C, Candidate, LIBRARY, NESTED, Times, sample};
 use crate::span;
-use crate::table::{compared, heading, ratios, row};
+use crate::table::{compared, heading, ratios, row, shown};
 use crate::targets::Measured;
 use std::cell::RefCell;
 use std::hint::black_box;
@@ -27,16 +27,26 @@ pub fn spans() -> Vec<u32> {
     vec![0; MIB / 4 * span::WORDS]
 }
 
-/// What C and the library tell of a region alike, and the table as they leave it.
-fn listed(region: &[u8], rules: &[u32], spans: &mut [u32]) -> ((u32, Listing), Vec<u32>) {
-    let limit = inputs::most_tries(region);
-    let [plain, proved] = [PLAIN, PROVED].map(|library| {
-        spans.fill(inputs::UNTOUCHED);
-        let told = library.list(region, rules, limit, spans);
-        (told, spans.to_vec())
-    });
-    assert!(plain == proved, "C lists {:?}, the library {:?}", plain.0, proved.0);
-    proved
+/// What a listing tells, and the table as it leaves it.
+type Listed = ((u32, Listing), Vec<u32>);
+
+fn listed_by(name: &str, library: Library, region: &[u8], rules: &[u32], spans: &mut [u32]) -> Listed {
+    spans.fill(inputs::UNTOUCHED);
+    let told = library.list(region, rules, inputs::most_tries(region), spans);
+    let past = &spans[told.1.rows as usize * span::WORDS..];
+    assert!(past.iter().all(|number| *number == inputs::UNTOUCHED), "{name} writes past its rows");
+    (told, spans.to_vec())
+}
+
+/// What C and both walks of the library make of a region alike.
+fn listed(region: &[u8], rules: &[u32], spans: &mut [u32]) -> Listed {
+    let nested = listed_by(NESTED, PROVED, region, rules, spans);
+    for (name, library) in [(C, PLAIN), ("the flat walk", FLAT)] {
+        let other = listed_by(name, library, region, rules, spans);
+        assert!(other.0 == nested.0, "{name} tells {:?}, {NESTED} {:?}", other.0, nested.0);
+        assert!(other.1 == nested.1, "{name} lists other rows than {NESTED}");
+    }
+    nested
 }
 
 /// Why a region stops, with a record and without one: those that are timed do not stop for every reason.
@@ -84,22 +94,33 @@ pub fn checked(region: &[u8], rules: &[u32], spans: &mut [u32]) -> usize {
     rows
 }
 
-pub fn times(region: &[u8], rules: &[u32], spans: &mut [u32]) -> Times {
+/// A call that lists a region into the table.
+fn work<'a>(library: Library, region: &'a [u8], rules: &'a [u32], spans: &'a RefCell<&mut [u32]>) -> Box<dyn FnMut() + 'a> {
     let limit = inputs::most_tries(region);
+    Box::new(move || _ = black_box(library.list(black_box(region), rules, limit, &mut spans.borrow_mut())))
+}
+
+pub fn times(region: &[u8], rules: &[u32], spans: &mut [u32]) -> Times {
     let spans = RefCell::new(spans);
-    let work = |library: Library| {
-        let spans = &spans;
-        move || {
-            black_box(library.list(black_box(region), rules, limit, &mut spans.borrow_mut()));
-        }
-    };
-    let mut candidates: Vec<Candidate> = vec![(C, Box::new(work(PLAIN))), (LIBRARY, Box::new(work(PROVED)))];
+    let work = |library| work(library, region, rules, &spans);
+    let mut candidates: Vec<Candidate> = vec![(C, work(PLAIN)), (LIBRARY, work(PROVED))];
     rust::add_walks(&mut candidates, region, rules);
     sample(&mut candidates)
 }
 
-pub fn report(tables: &[Vec<u32>]) -> Vec<Measured> {
-    heading("Listing a region of 1 MiB", &compared(&["region", "rules", "rows", "library, ns a row"]));
+/// The flat walk is what is measured, the nested one what it is measured against.
+fn flat_times(region: &[u8], rules: &[u32], spans: &mut [u32]) -> Times {
+    let spans = RefCell::new(spans);
+    let work = |library| work(library, region, rules, &spans);
+    sample(&mut [(C, work(PLAIN)), (NESTED, work(PROVED)), (LIBRARY, work(FLAT))])
+}
+
+/// Times each region under each rule table, once it is checked, and prints a line of the table for it.
+fn measure(
+    tables: &[Vec<u32>],
+    times: fn(&[u8], &[u32], &mut [u32]) -> Times,
+    ratios: fn(&Times) -> Vec<String>,
+) -> Vec<Measured> {
     let mut spans = spans();
     let mut measured = Vec::new();
     for (name, make) in REGIONS {
@@ -116,4 +137,15 @@ pub fn report(tables: &[Vec<u32>]) -> Vec<Measured> {
         }
     }
     measured
+}
+
+pub fn report(tables: &[Vec<u32>]) -> Vec<Measured> {
+    heading("Listing a region of 1 MiB", &compared(&["region", "rules", "rows", "library, ns a row"]));
+    measure(tables, times, ratios)
+}
+
+pub fn report_flat(tables: &[Vec<u32>]) -> Vec<Measured> {
+    let columns = ["region", "rules", "rows", "flat walk, ns a row", "flat / nested", "flat / C"];
+    heading("Listing with a small stack", &columns);
+    measure(tables, flat_times, |times| [NESTED, C].map(|other| shown(times.ratio(LIBRARY, other))).to_vec())
 }

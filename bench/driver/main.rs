@@ -33,10 +33,11 @@ fn main() {
         return counting::write_inputs(folder.as_ref(), &tables);
     }
     let listings = listing::report(&tables);
+    let flat_listings = listing::report_flat(&tables);
     let receptions = receiving::report(&tables[..2]);
     let normal_forms = normalising::report();
     headers::report_decoding(&tables);
     headers::report_encoding(&tables);
     growth::report(&rules);
-    targets::report(&listings, &receptions, &normal_forms);
+    targets::report(&listings, &flat_listings, &receptions, &normal_forms);
 }

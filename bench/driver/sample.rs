@@ -31,7 +31,8 @@ pub const C: &str = "C";
 pub const LIBRARY: &str = "library";
 pub const STANDIN: &str = "Rust";
 pub const PUBLISHED: &str = "published Rust";
-pub const LISTING: &str = "the library's listing";
+pub const LISTING: &str = "a listing";
+pub const NESTED: &str = "the nested walk";
 
 /// A candidate's name, and its work.
 pub type Candidate<'a> = (&'static str, Box<dyn FnMut() + 'a>);

@@ -1,6 +1,6 @@
 //! What is aimed at, and the input on which the library comes out worst.
 use crate::rust;
-use crate::sample::{C, LIBRARY, LISTING, STANDIN, Times};
+use crate::sample::{C, LIBRARY, LISTING, NESTED, STANDIN, Times};
 use crate::table::{heading, row};
 
 /// The times on one input.
@@ -22,6 +22,9 @@ const MOST_OF_C: f64 = 1.3;
 /// At most so many times the time of a listing of the same bytes.
 const MOST_OF_LISTING: f64 = 1.5;
 
+/// At most so many times the time of the nested walk.
+const MOST_OF_NESTED: f64 = 1.15;
+
 /// At least so many times as fast as the Rust with the same rules.
 const LEAST_OF_RUST_LISTING: f64 = 5.0;
 const LEAST_OF_RUST_NORMALISING: f64 = 2.0;
@@ -37,14 +40,9 @@ fn slowest<'a>(measured: impl IntoIterator<Item = &'a Measured>, other: &str) ->
     ratios.max_by(|a, b| a.0.total_cmp(&b.0)).unwrap()
 }
 
-fn against_c<'a>(what: &str, measured: impl IntoIterator<Item = &'a Measured>) {
-    let worst = slowest(measured, C);
-    line(format!("{what}: at most {MOST_OF_C} times C"), worst, worst.0 <= MOST_OF_C);
-}
-
-fn against_listing(what: &str, measured: &[Measured]) {
-    let worst = slowest(measured, LISTING);
-    line(format!("{what}: at most {MOST_OF_LISTING} times a listing"), worst, worst.0 <= MOST_OF_LISTING);
+fn at_most<'a>(what: &str, most: f64, other: &str, measured: impl IntoIterator<Item = &'a Measured>) {
+    let worst = slowest(measured, other);
+    line(format!("{what}: at most {most} times {other}"), worst, worst.0 <= most);
 }
 
 fn against_rust(what: &str, least: f64, measured: &[Measured]) {
@@ -53,12 +51,13 @@ fn against_rust(what: &str, least: f64, measured: &[Measured]) {
     line(format!("{what}: at least {least} times as fast as the Rust"), worst, least <= worst.0);
 }
 
-pub fn report(listings: &[Measured], receptions: &Receptions, normal_forms: &[Measured]) {
+pub fn report(listings: &[Measured], flat_listings: &[Measured], receptions: &Receptions, normal_forms: &[Measured]) {
     heading("Targets", &["target", "worst", "on", "met"]);
-    against_c("listing", listings);
-    against_c("receiving", receptions.short.iter().chain(&receptions.long));
-    against_listing("receiving records of up to 64 bytes", &receptions.short);
-    against_c("normalising", normal_forms);
+    at_most("listing", MOST_OF_C, C, listings);
+    at_most("flat walk", MOST_OF_NESTED, NESTED, flat_listings);
+    at_most("receiving", MOST_OF_C, C, receptions.short.iter().chain(&receptions.long));
+    at_most("receiving records of up to 64 bytes", MOST_OF_LISTING, LISTING, &receptions.short);
+    at_most("normalising", MOST_OF_C, C, normal_forms);
     if rust::PRESENT {
         against_rust("listing", LEAST_OF_RUST_LISTING, listings);
         against_rust("normalising", LEAST_OF_RUST_NORMALISING, normal_forms);

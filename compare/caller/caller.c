@@ -11,6 +11,8 @@
  *                  a call that is to be refused was not, or was and changed or told something, and 8 if the rows told are more
  *                  or fewer than the request says
  *
+ * A listing has two such answers, each with what is written after it: of crashlog_list, then of crashlog_list_flat on the same.
+ *
  * Input, pieces of it and rules end where memory ends, so that a read past them is a fault. All numbers are little-endian.
  */
 #include <string.h>
@@ -26,11 +28,15 @@ static uint8_t batch[32 * MEGABYTE], answers[96 * MEGABYTE];
 static _Alignas(64) uint8_t area[64 * MEGABYTE];
 static _Alignas(PAGE) uint8_t inputs[2 * MEGABYTE + PAGE], tables[PAGE + PAGE], pieces[PAGE + PAGE];
 
-/* A request taken apart. */
+typedef uint32_t list_function(const uint8_t *, uint64_t, const uint32_t *, uint64_t, uint64_t, uint32_t *, uint64_t,
+                               crashlog_listing *);
+
+/* A request taken apart, and which function makes its listing. */
 struct request {
     uint32_t call, size, rules, room, length, stored, written;
     uint64_t number;
     const uint8_t *rest;
+    list_function *list;
 };
 
 static uint32_t number4(const uint8_t *at) { return at[0] | at[1] << 8 | at[2] << 16 | (uint32_t)at[3] << 24; }
@@ -71,7 +77,7 @@ static struct request request_at(const uint8_t *at)
 {
     const uint8_t *body = at + 8;
     return (struct request){ number4(at), number4(at + 4), number4(body + 4), number4(body + 16), number4(body + 20),
-                             number4(body + 24), number4(body + 28), number8(body + 8), body + FIXED };
+                             number4(body + 24), number4(body + 28), number8(body + 8), body + FIXED, crashlog_list };
 }
 
 /* What lent buffers hold before a call, from some place on: these bytes again and again. No two neighbours are equal, and none
@@ -293,7 +299,7 @@ static uint64_t call(const struct request *asked, void *told)
         return crashlog_encode(&header, rules, asked->rules, lent, asked->room, told);
     }
     case LISTINGS:
-        return crashlog_list(input, asked->length, rules, asked->rules, asked->number, table, asked->room, told);
+        return asked->list(input, asked->length, rules, asked->rules, asked->number, table, asked->room, told);
     case TABLES: return crashlog_sections(input, asked->length, table, asked->room, told);
     case SECTIONS: return crashlog_section(input, asked->length, (uint32_t)asked->number, told);
     case NORMAL_FORMS: return crashlog_normalise(input, asked->length, lent, asked->room, told);
@@ -341,6 +347,10 @@ int main(void)
         for (const uint8_t *at = batch; at < batch + number4(size);) {
             struct request asked = request_at(at);
             to = answer(&asked, to);
+            if (asked.call == LISTINGS) {
+                asked.list = crashlog_list_flat;
+                to = answer(&asked, to);
+            }
             at += 8 + asked.size;
         }
         give(answers, (size_t)(to - answers));

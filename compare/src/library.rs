@@ -1,6 +1,6 @@
 //! The library, behind the program that calls it (caller/caller.c).
 
-use crate::case::{Case, hex};
+use crate::case::{Call, Case, hex};
 use crate::replay;
 use crate::x86;
 use std::io::{self, BufReader, Read, Write};
@@ -13,7 +13,12 @@ pub struct Library {
     answers: BufReader<ChildStdout>,
 }
 
-/// What came of a call.
+/// The functions that make a call, in the order of their replies: a listing is made by two, which are held to the same.
+fn functions(call: Call) -> &'static [&'static str] {
+    if call == Call::Listings { &["crashlog_list", "crashlog_list_flat"] } else { &["it"] }
+}
+
+/// What came of a call of one function.
 pub struct Reply {
     pub told: [u64; 6],
     /// The first byte that was changed past those that may be.
@@ -36,9 +41,9 @@ impl Library {
         Ok(Library { program: program.to_string(), child, requests, answers })
     }
 
-    pub fn ask(&mut self, case: &Case) -> io::Result<Reply> {
+    pub fn ask(&mut self, case: &Case) -> io::Result<Vec<Reply>> {
         self.send([case].into_iter())?;
-        self.reply(case)
+        self.replies(case)
     }
 
     fn send<'a>(&mut self, cases: impl Iterator<Item = &'a Case>) -> io::Result<()> {
@@ -50,6 +55,10 @@ impl Library {
         let size = batch.len() as u32 - 4;
         batch[..4].copy_from_slice(&size.to_le_bytes());
         self.requests.write_all(&batch)
+    }
+
+    fn replies(&mut self, case: &Case) -> io::Result<Vec<Reply>> {
+        functions(case.call).iter().map(|_| self.reply(case)).collect()
     }
 
     fn reply(&mut self, case: &Case) -> io::Result<Reply> {
@@ -80,7 +89,7 @@ impl Library {
 
     fn check_at_once(&mut self, cases: &[&Case]) -> io::Result<Vec<Result<(), String>>> {
         self.send(cases.iter().copied())?;
-        cases.iter().map(|case| Ok(judge(case, &self.reply(case)?))).collect()
+        cases.iter().map(|case| Ok(judge_all(case, &self.replies(case)?))).collect()
     }
 
     /// Makes the calls one by one, on a program started anew; the old one has ended.
@@ -97,27 +106,39 @@ impl Library {
     }
 }
 
+/// The error names each function that does what it must not.
+fn judge_all(case: &Case, replies: &[Reply]) -> Result<(), String> {
+    let mut wrong = Vec::new();
+    for (function, reply) in functions(case.call).iter().zip(replies) {
+        if let Err(what) = judge(case, reply) {
+            wrong.push(format!("{function} {what}"));
+        }
+    }
+    if wrong.is_empty() { Ok(()) } else { Err(wrong.join("\n  ")) }
+}
+
+/// The error says what a function does that it must not.
 fn judge(case: &Case, reply: &Reply) -> Result<(), String> {
     if reply.told != case.told {
-        return Err(format!("it tells {:?}", reply.told));
+        return Err(format!("tells {:?}", reply.told));
     }
     if reply.written != case.written {
-        return Err(format!("it writes {}", hex(&reply.written)));
+        return Err(format!("writes {}", hex(&reply.written)));
     }
     if let Some(at) = reply.changed {
-        return Err(format!("it changes byte {at} of the lent buffer"));
+        return Err(format!("changes byte {at} of the lent buffer"));
     }
     if reply.input_changed {
-        return Err("it changes the input".to_string());
+        return Err("changes the input".to_string());
     }
     if reply.beside_changed {
-        return Err("it changes a number beside those that it tells".to_string());
+        return Err("changes a number beside those that it tells".to_string());
     }
     if reply.wrongly_refused {
-        return Err("it does not refuse a call, or changes or tells something where it does".to_string());
+        return Err("does not refuse a call, or changes or tells something where it does".to_string());
     }
     if reply.other_rows {
-        return Err("it tells more or fewer rows".to_string());
+        return Err("tells more or fewer rows".to_string());
     }
     Ok(())
 }

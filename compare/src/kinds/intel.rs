@@ -14,8 +14,8 @@ const WORDS: usize = 120;
 /// The table, in room that is just enough.
 pub fn table(library: &mut Library) -> Rc<[u32]> {
     let room = Case { room: WORDS, written: vec![0; 4 * WORDS], ..asked() };
-    let reply = library.ask(&room).expect("the program that calls the library runs");
-    reply.written.chunks_exact(4).map(|word| u32::from_le_bytes(word.try_into().unwrap())).collect()
+    let replies = library.ask(&room).expect("the program that calls the library runs");
+    replies[0].written.chunks_exact(4).map(|word| u32::from_le_bytes(word.try_into().unwrap())).collect()
 }
 
 fn asked() -> Case {

@@ -1,2 +1,3 @@
+mod Told
 pub mod Fields
 pub mod Turned

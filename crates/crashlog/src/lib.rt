@@ -4,11 +4,22 @@ ghost use mathlib.Core.Path.{_≡_};
 ghost use Rattle.rules.specs.Intel.{intelOut};
 ghost use Rattle.region.specs.Listing.{listed};
 ghost use Rattle.names.specs.Names.{textOf, nameOut};
-ghost use Rattle.crashlog.specs.Listing.{listingOut};
+ghost use Rattle.crashlog.specs.Listing.{numbersOut, listingOut};
 
 pub mod containers;
 pub mod headers;
 pub mod receivers;
+
+use region::Listing;
+
+// Tells a listing in numbers, and gives its answer's.
+fn tell(listing: Listing, told: &mut [u64; 5]) -> u32
+    ensures { λ r. ⌜ (now (told .exit), r) ≡ numbersOut listing ⌝ }
+{
+    let answer = listing.answer;
+    *told = region::listing_told(listing);
+    region::number_of(answer)
+}
 
 // The nested listing of a region.
 #[no_mangle]
@@ -21,10 +32,21 @@ pub extern "C" fn crashlog_list(
 ) -> u32
     ensures { λ r. ⌜ (now (spans .exit), (now (told .exit), r)) ≡ listingOut (listed (now (rules .entry)) (now (region .entry)) limit (now (spans .entry))) ⌝ }
 {
-    let listing = region::list(region, rules, limit, spans);
-    let answer = listing.answer;
-    *told = region::listing_told(listing);
-    region::number_of(answer)
+    tell(region::list(region, rules, limit, spans), told)
+}
+
+// The same by a walk for a small stack.
+#[no_mangle]
+pub extern "C" fn crashlog_list_flat(
+    region: &[u8],
+    rules: &[u32],
+    limit: u64,
+    spans: &mut [u32],
+    told: &mut [u64; 5],
+) -> u32
+    ensures { λ r. ⌜ (now (spans .exit), (now (told .exit), r)) ≡ listingOut (listed (now (rules .entry)) (now (region .entry)) limit (now (spans .entry))) ⌝ }
+{
+    tell(region_flat::list_flat(region, rules, limit, spans), told)
 }
 
 // The length of a record type's name, which is written where it fits.

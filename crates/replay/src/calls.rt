@@ -51,7 +51,23 @@ pub(crate) fn encode(
     tells_one(answer, length, told) & left_bytes(out, left)
 }
 
+// A listing by one of the two walks.
+fn listed(
+    flat: bool,
+    region: &[u8],
+    rules: &[u32],
+    limit: u64,
+    spans: &mut [u32],
+    heard: &mut [u64; 5],
+) -> u32 {
+    if flat {
+        return crashlog::crashlog_list_flat(region, rules, limit, spans, heard);
+    }
+    crashlog::crashlog_list(region, rules, limit, spans, heard)
+}
+
 pub(crate) fn listing(
+    flat: bool,
     region: &[u8],
     rules: &[u32],
     limit: u64,
@@ -62,7 +78,7 @@ pub(crate) fn listing(
 ) -> bool {
     let lent = words_within(room, spans);
     let mut heard = [UNTOUCHED_LONG; 5];
-    let answer = crashlog::crashlog_list(region, rules, limit, &mut spans[..lent], &mut heard);
+    let answer = listed(flat, region, rules, limit, &mut spans[..lent], &mut heard);
     tells_five(answer as u64, heard, told) & left_words(spans, left)
 }
 
