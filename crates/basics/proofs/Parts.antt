@@ -1,11 +1,12 @@
--- The part of a list that starts at an offset, as code lends it: all that stands from there on.
--- By the lengths. Assumes nothing.
-use mathlib.Core.Path.{_≡_, ap, _∙_}
-use mathlib.Core.List.{List, _++_, append-nil}
-use Prim.Native.Nat.{ℕ, _+_, _-_, _≤_}
+-- A part of a list, as code lends it: what stands from an offset on, and what follows some bytes of a part.
+-- By the lengths, and by induction over the bytes. Assumes nothing.
+use mathlib.Core.Path.{_≡_, ap, sym, _∙_}
+use mathlib.Core.List.{List, [], _∷_, _++_, append-nil}
+use Prim.Native.Nat.{ℕ, zero, suc, _+_, _-_, _≤_}
+use native.Mathlib.Nat.{sub-zero}
 use native.Mathlib.Omega.{arith}
 use lib.ListN.{length, take, drop, drop-of-length-le, length-drop}
-use lib.Seq.{drop-drop, take-all}
+use lib.Seq.{drop-drop, take-all, take-nil}
 use borrow.Rule.Slice.PartMut.{putMid}
 
 pub tail-part : (bs : List ℕ) (at : ℕ) → take (length bs - at) (drop at bs) ≡ drop at bs
@@ -20,3 +21,10 @@ put-through out field last at n e =
     (e ∙ ap (λ (l : List ℕ). field ++ drop n l) (tail-part out at) ∙ ap (λ (l : List ℕ). field ++ l) (drop-drop n at out))
     ∙ ap (λ (l : List ℕ). take at out ++ ((field ++ drop (at + n) out) ++ l)) (drop-drop (length out - at) at out ∙ drop-of-length-le out end)
     ∙ ap (λ (l : List ℕ). take at out ++ l) (append-nil (field ++ drop (at + n) out))
+
+-- what follows some bytes of a part is a part of what follows them
+pub drop-take : (k n : ℕ) (bs : List ℕ) → drop k (take n bs) ≡ take (n - k) (drop k bs)
+drop-take zero n bs = rw (sub-zero n)
+drop-take (suc k) zero bs = let none : 0 - suc k ≡ 0 = omega arith in rw none
+drop-take (suc k) (suc n) [] = sym (take-nil (suc n - suc k))
+drop-take (suc k) (suc n) (b ∷ bs) = let less : suc n - suc k ≡ n - k = omega arith in rw less (drop-take k n bs)

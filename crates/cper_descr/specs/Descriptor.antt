@@ -17,6 +17,10 @@ offsetAt = 0
 abbrev pub lengthAt : ℕ
 lengthAt = 4
 
+-- and where its section's type does
+abbrev pub typeAt : ℕ
+typeAt = 16
+
 -- the validation bits
 abbrev pub fruIdBit : ℕ
 fruIdBit = 1
@@ -34,7 +38,7 @@ descriptorOf bs =
       revision = le 2 bs 8;
       «validation_bits» = bits;
       flags = le 4 bs 12;
-      «section_type» = part bs 16 16;
+      «section_type» = part bs typeAt 16;
       «has_fru_id» = has bits fruIdBit;
       «fru_id» = present (has bits fruIdBit) 16 (part bs 32 16);
       «section_severity» = severityOf (le 4 bs 48);

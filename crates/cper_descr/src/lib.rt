@@ -21,7 +21,7 @@ const RESERVED_AT: usize = 11;
 
 const FLAGS_AT: usize = 12;
 
-const SECTION_TYPE_AT: usize = 16;
+pub const SECTION_TYPE_AT: usize = 16;
 
 const FRU_ID_AT: usize = 32;
 

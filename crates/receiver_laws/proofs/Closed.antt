@@ -14,7 +14,7 @@ use Rattle.region_rows.specs.Rows.{capacity}
 use Rattle.region_try.specs.Tries.{Try, none, hit, rowsFound}
 use Rattle.region.specs.Listing.{numberOf}
 use Rattle.region.specs.declared.Answer.{Answer}
-use Rattle.region.specs.declared.Answer.the-variants.{Done, TooLong, BadRules, BadHeader, BadType, Empty, SpansFull, TriesSpent}
+use Rattle.region.specs.declared.Answer.the-variants.{Done, TooLong, BadRules, NotCper, BadHeader, BadType, Empty, SpansFull, TriesSpent}
 use Rattle.receiver.specs.Arrived.{topTries, arrived}
 use Rattle.receiver.specs.Waiting.{Waiting, lastListing}
 use Rattle.receiver.specs.Calls.{shut, shutDown, rulesAt, waitingOf, inBounds, sound, usable, leastRoom, feedOut, FinishOut, finishRefused, finished, finishOut, finishedOut}
@@ -58,6 +58,7 @@ listing-answers : (a : Answer) → refuses (numberOf a) ≡ false
 listing-answers Done = refl
 listing-answers TooLong = refl
 listing-answers BadRules = refl
+listing-answers NotCper = refl
 listing-answers BadHeader = refl
 listing-answers (BadType t) = refl
 listing-answers Empty = refl

@@ -10,10 +10,10 @@ use Rattle.rules.specs.Rules.{validOf}
 use Rattle.header_judge.specs.Version.{bit}
 use Rattle.region_rows.specs.declared.Span.{Span}
 use Rattle.region_rows.specs.Rows.{capacity, spansIn}
-use Rattle.region_try.specs.Stops.{stopOf, badTypeOf, stopNumber}
+use Rattle.region_try.specs.Stops.{stopNumber}
 use Rattle.region_try.specs.Tries.{Try, none, hit, rowsFound, standsAt, allTries}
 use Rattle.region_try.specs.declared.Cut.the-variants.{Going}
-use Rattle.region.specs.Listing.{numberOf, typeOf, answerOf, wholeOf}
+use Rattle.region.specs.Listing.{numberOf, typeOf, triesListing}
 use Rattle.region.specs.declared.Listing.{Listing}
 use Rattle.receiver.specs.Calls.{mostPiece, leastRoom, startedOut, fedOut, finishedOut}
 use Rattle.receiver.specs.declared.Receiver.{Receiver}
@@ -38,18 +38,9 @@ unfoldable pub levelZero : List Try → List Try
 levelZero [] = []
 levelZero (v ∷ vs) = cond (eqb (levelOf v) 0) (v ∷ levelZero vs) (levelZero vs)
 
--- the listing that some tries make where nothing cuts them off
+-- the listing of some tries where nothing cuts them off
 abbrev pub listingBy : List Try → Listing
-listingBy vs =
-    let standing = standsAt 0 vs in
-    let answer = answerOf Going (length (rowsFound vs)) (stopOf standing) (badTypeOf standing) in
-    record {
-      answer = answer;
-      rows = length (rowsFound vs);
-      tries = length vs;
-      whole = wholeOf answer vs;
-      stop = stopOf standing;
-    }
+listingBy vs = triesListing (standsAt 0 vs) vs (record { rows = rowsFound vs; tries = length vs; cut = Going })
 
 -- what is told of some tries
 abbrev pub toldBy : List Try → Told

@@ -24,7 +24,7 @@ use Rattle.region_try.specs.Whole.{keepsWhole, allKeepWhole}
 use Rattle.region_try.specs.Steps.{Walk, state, step, run}
 use Rattle.region_walk.specs.Steps.{endWhere, regionEnd}
 use Rattle.region_walk.specs.declared.Walked.{Walked}
-use Rattle.region.specs.Listing.{numberOf, answerOf, topStands, Shown, tried, triedRow, shown, refusal, listingAt, walked, listed}
+use Rattle.region.specs.Listing.{numberOf, answerOf, topStands, Shown, tried, triedRow, shown, refusal, listingAt, triesShowing, showing, walked, listed}
 use Rattle.region.specs.declared.Answer.the-variants.{TooLong, BadRules}
 use Rattle.region.specs.declared.Listing.{Listing}
 use Rattle.region_try.specs.declared.Cut.{Cut}
@@ -191,7 +191,37 @@ answer-told Going n s = refl
 answer-told Full n s = refl
 answer-told Spent n s = refl
 
--- ---- the whole listing
+-- ---- any tries, from an empty table
+
+-- the table and the listing at the end of a walk
+abbrev pub made : List ℕ × Walked → List ℕ × Listing
+made m = (m .0, listingAt (m .1))
+
+module _ (limit room : ℕ) (vs : List Try) (t : List ℕ) (fits : room ≤ capacity t) where
+  abbrev part : Shown
+  part = shown limit room vs
+
+  laid-eq : stored t 0 (part .rows) ≡ laid (part .rows) t
+  laid-eq =
+      let a : length (part .rows) ≤ room = shown-room limit room vs in
+      stored-laid (part .rows) t (omega arith)
+
+  runs : run limit room vs (t, state 0 0 true Going) ≡ (laid (part .rows) t, state (length (part .rows)) (part .tries) (marked true (part .cut) vs) (part .cut))
+  runs =
+      run-shows limit room vs t 0 0 true
+      ∙ rw (sub-zero limit, sub-zero room, zero-add (length (part .rows)), zero-add (part .tries), laid-eq)
+
+  -- the rows shown fit the table
+  pub rows-fit : length (part .rows) * width ≤ length t
+  rows-fit =
+      let a : length (part .rows) ≤ room = shown-room limit room vs in
+      omega (arith, div-mul-le-self (length t) width)
+
+  -- the listing of a walk that makes them
+  pub run-listed : (standing : Standing) → made (endWhere standing (run limit room vs (t, state 0 0 true Going))) ≡ triesShowing standing vs t part
+  run-listed standing = ap (λ (m : Walk). made (endWhere standing m)) runs ∙ rw (answer-told (part .cut) (length (part .rows)) standing, marked-answer)
+
+-- ---- the listing of a region
 
 module _ (rules bytes : List ℕ) (limit : ℕ) (t : List ℕ) where
   pub listed-long : mostBytes < length bytes → _≡_ {A = List ℕ × Listing} (t, refusal TooLong) (listed rules bytes limit t)
@@ -207,41 +237,21 @@ module _ (rules bytes : List ℕ) (limit : ℕ) (t : List ℕ) where
     unfolding listed
     listed-walked g = rw (le-ltb mostBytes (length bytes) h, g)
 
-    abbrev all : Shown
-    all = shown limit (capacity t) (allTries rules bytes)
-
     -- the cap on the room is never met
-    pub uncapped : shown limit (min (capacity t) mostRows) (allTries rules bytes) ≡ all
+    pub uncapped : shown limit (min (capacity t) mostRows) (allTries rules bytes) ≡ shown limit (capacity t) (allTries rules bytes)
     uncapped =
         let a : length (allTries rules bytes) ≤ 5 * length bytes = all-bound rules (λ n. n) (bytes-are-units rules) bytes in
         capped limit (capacity t) mostRows (allTries rules bytes) (omega arith)
 
-    laid-eq : stored t 0 (all .rows) ≡ laid (all .rows) t
-    laid-eq =
-        let a : length (all .rows) ≤ capacity t = shown-room limit (capacity t) (allTries rules bytes) in
-        stored-laid (all .rows) t (omega arith)
-
-    runs : run limit (min (capacity t) mostRows) (regionTries rules deepest bytes 0 top 0) (t, state 0 0 true Going)
-        ≡ (laid (all .rows) t, state (length (all .rows)) (all .tries) (marked true (all .cut) (allTries rules bytes)) (all .cut))
-    unfolding allTries
-    runs =
-        run-shows limit (min (capacity t) mostRows) (regionTries rules deepest bytes 0 top 0) t 0 0 true
-        ∙ rw (sub-zero limit, sub-zero (min (capacity t) mostRows), uncapped, zero-add (length (all .rows)), zero-add (all .tries), laid-eq)
-
-    -- the table and the listing at the end of a walk
-    abbrev made : List ℕ × Walked → List ℕ × Listing
-    made m = (m .0, listingAt (m .1))
-
-    walked-eq : made (endWhere (topStands rules bytes) (laid (all .rows) t, state (length (all .rows)) (all .tries) (marked true (all .cut) (allTries rules bytes)) (all .cut)))
-        ≡ walked rules bytes limit t
-    unfolding walked
-    walked-eq = rw (answer-told (all .cut) (length (all .rows)) (topStands rules bytes), marked-answer)
-
     pub listed-run : validOf rules ≡ true → (m : List ℕ × Walked)
         → m ≡ regionEnd limit (min (capacity t) mostRows) deepest (regionTries rules deepest bytes 0 top 0) (t, state 0 0 true Going)
         → made m ≡ listed rules bytes limit t
-    unfolding allTries
-    listed-run g m e = ap made (e ∙ ap (endWhere (topStands rules bytes)) runs) ∙ walked-eq ∙ sym (listed-walked g)
+    unfolding allTries walked
+    listed-run g m e =
+        ap made e
+        ∙ run-listed limit (min (capacity t) mostRows) (regionTries rules deepest bytes 0 top 0) t (omega arith) (topStands rules bytes)
+        ∙ ap (showing rules bytes t) uncapped
+        ∙ sym (listed-walked g)
 
 -- ---- every listing
 
@@ -257,14 +267,17 @@ listed-cases P rules bytes limit t long bad work = by (ltb mostBytes (length byt
     by false false = bad
 
 -- its rows fit the table
-pub rows-fit : (rules bytes : List ℕ) (limit : ℕ) (t : List ℕ) → listed rules bytes limit t .1 .rows * width ≤ length t
-unfolding walked
-rows-fit rules bytes limit t =
-    listed-cases (λ (x : List ℕ × Listing). x .1 .rows * width ≤ length t) rules bytes limit t (omega arith) (omega arith)
-    (let a : length (shown limit (capacity t) (allTries rules bytes) .rows) ≤ capacity t = shown-room limit (capacity t) (allTries rules bytes) in
-    omega (arith, div-mul-le-self (length t) width))
+abbrev pub Fits : List ℕ → List ℕ × Listing → Type 0
+Fits t x = x .1 .rows * width ≤ length t
 
--- and so do those of what is the listing
-pub with-fit : (rules bytes : List ℕ) (limit : ℕ) (t : List ℕ) {x : List ℕ × Listing} → x ≡ listed rules bytes limit t
-    → (x ≡ listed rules bytes limit t) × (x .1 .rows * width ≤ length t)
-with-fit rules bytes limit t e = (e, subst (λ (y : List ℕ × Listing). y .1 .rows * width ≤ length t) (sym e) (rows-fit rules bytes limit t))
+listed-fits : (rules bytes : List ℕ) (limit : ℕ) (t : List ℕ) → Fits t (listed rules bytes limit t)
+unfolding walked
+listed-fits rules bytes limit t =
+    listed-cases (Fits t) rules bytes limit t (omega arith) (omega arith) (rows-fit limit (capacity t) (allTries rules bytes) t (omega arith))
+
+-- and so do those of what equals it
+pub equal-fits : (t : List ℕ) {x y : List ℕ × Listing} → Fits t y → x ≡ y → (x ≡ y) × Fits t x
+equal-fits t f e = (e, subst (Fits t) (sym e) f)
+
+pub with-fit : (rules bytes : List ℕ) (limit : ℕ) (t : List ℕ) {x : List ℕ × Listing} → x ≡ listed rules bytes limit t → (x ≡ listed rules bytes limit t) × Fits t x
+with-fit rules bytes limit t e = equal-fits t (listed-fits rules bytes limit t) e

@@ -18,7 +18,7 @@ use Rattle.region_try.specs.declared.Cut.the-variants.{Going, Full, Spent}
 use Rattle.region_try.specs.declared.stop.Stop.{Stop}
 use Rattle.region_walk.specs.declared.Walked.{Walked}
 use Rattle.region.specs.declared.Answer.{Answer}
-use Rattle.region.specs.declared.Answer.the-variants.{Done, TooLong, BadRules, BadHeader, BadType, Empty, SpansFull, TriesSpent}
+use Rattle.region.specs.declared.Answer.the-variants.{Done, TooLong, BadRules, NotCper, BadHeader, BadType, Empty, SpansFull, TriesSpent}
 use Rattle.region.specs.declared.Listing.{Listing}
 
 -- ---- the answers
@@ -28,6 +28,7 @@ abbrev pub numberOf : Answer → ℕ
 numberOf Done = answer.done
 numberOf TooLong = answer.tooLong
 numberOf BadRules = answer.badRules
+numberOf NotCper = answer.notCper
 numberOf BadHeader = answer.badHeader
 numberOf (BadType t) = answer.badType
 numberOf Empty = answer.empty
@@ -39,6 +40,7 @@ abbrev pub typeOf : Answer → ℕ
 typeOf Done = 0
 typeOf TooLong = 0
 typeOf BadRules = 0
+typeOf NotCper = 0
 typeOf BadHeader = 0
 typeOf (BadType t) = t
 typeOf Empty = 0
@@ -86,29 +88,26 @@ shown (suc limit) room (none level offset head ∷ vs) = tried (shown limit room
 shown (suc limit) zero (hit r ∷ vs) = record { rows = []; tries = 1; cut = Full }
 shown (suc limit) (suc room) (hit r ∷ vs) = triedRow r (shown limit room vs)
 
--- ---- the listing
+-- ---- the listing of some tries
 
 -- yes exactly when the answer is 0 and every try keeps it whole (document 02, C-14)
 abbrev pub wholeOf : Answer → List Try → Bool
 wholeOf answer tries = eqb (numberOf answer) 0 && allKeepWhole tries
 
--- what stands where the top region stops
-abbrev pub topStands : List ℕ → List ℕ → Standing
-topStands rules bytes = standsAt 0 (allTries rules bytes)
-
 -- the answer of what is shown
 abbrev pub answerShown : Standing → Shown → Answer
 answerShown standing s = answerOf (s .cut) (length (s .rows)) (stopOf standing) (badTypeOf standing)
 
-abbrev pub listingOf : List ℕ → List ℕ → Shown → Listing
-listingOf rules bytes s =
-    let answer = answerShown (topStands rules bytes) s in
+-- the listing of some tries, of which so much is shown; this stands where the top region stops
+abbrev pub triesListing : Standing → List Try → Shown → Listing
+triesListing standing tries s =
+    let answer = answerShown standing s in
     record {
       answer = answer;
       rows = length (s .rows);
       tries = s .tries;
-      whole = wholeOf answer (allTries rules bytes);
-      stop = stopOf (standingTold (s .cut) (topStands rules bytes));
+      whole = wholeOf answer tries;
+      stop = stopOf (standingTold (s .cut) standing);
     }
 
 -- what is told of it in numbers: rows, tries, the bad type, whether it is whole, and why the top region stopped
@@ -118,15 +117,27 @@ listingTold l = l .rows ∷ l .tries ∷ typeOf (l .answer) ∷ bit (l .whole) �
 abbrev pub refusal : Answer → Listing
 refusal answer = record { answer = answer; rows = 0; tries = 0; whole = false; stop = Stop.Untold }
 
--- the listing at the end of a whole input's walk
+-- the listing at the end of a walk
 abbrev pub listingAt : Walked → Listing
 listingAt end =
     let answer = answerOf (end .cut) (end .rows) (end .stop) (end .«bad_type») in
     record { answer = answer; rows = end .rows; tries = end .tries; whole = eqb (numberOf answer) 0 && end .whole; stop = end .stop }
 
 -- the table with the rows laid at its start, and the listing
+abbrev pub triesShowing : Standing → List Try → List ℕ → Shown → List ℕ × Listing
+triesShowing standing tries t s = (laid (s .rows) t, triesListing standing tries s)
+
+-- ---- the listing of a region
+
+-- what stands where it stops
+abbrev pub topStands : List ℕ → List ℕ → Standing
+topStands rules bytes = standsAt 0 (allTries rules bytes)
+
+abbrev pub listingOf : List ℕ → List ℕ → Shown → Listing
+listingOf rules bytes s = triesListing (topStands rules bytes) (allTries rules bytes) s
+
 abbrev pub showing : List ℕ → List ℕ → List ℕ → Shown → List ℕ × Listing
-showing rules bytes t s = (laid (s .rows) t, listingOf rules bytes s)
+showing rules bytes t s = triesShowing (topStands rules bytes) (allTries rules bytes) t s
 
 -- the table and the listing at the end, where nothing is refused
 unfoldable pub walked : List ℕ → List ℕ → ℕ → List ℕ → List ℕ × Listing

@@ -13,11 +13,12 @@ use region_try::stop::stop_number;
 use region_walk::DEEPEST;
 use region_walk::Walked;
 
-// What a listing answers.
+// What a listing answers: 'not a CPER' that of a CPER's regions, a bad header or type that of one region.
 pub enum Answer {
     Done,
     TooLong,
     BadRules,
+    NotCper,
     BadHeader,
     BadType(u32),
     Empty,
@@ -68,12 +69,13 @@ pub fn answer_of(cut: Cut, rows: u32, stop: Stop, bad_type: u32) -> Answer
 
 // Document 01's number of an answer.
 pub fn number_of(answer: Answer) -> u32
-    ensures { λ r. ⌜ (r ≡ numberOf answer) × (r < 8) ⌝ }
+    ensures { λ r. ⌜ (r ≡ numberOf answer) × (r < 9) ⌝ }
 {
     match answer {
         Answer::Done => answers::DONE,
         Answer::TooLong => answers::TOO_LONG,
         Answer::BadRules => answers::BAD_RULES,
+        Answer::NotCper => answers::NOT_CPER,
         Answer::BadHeader => answers::BAD_HEADER,
         Answer::BadType(_) => answers::BAD_TYPE,
         Answer::Empty => answers::EMPTY,
@@ -91,6 +93,7 @@ pub fn type_of(answer: Answer) -> u32
         Answer::Done => 0,
         Answer::TooLong => 0,
         Answer::BadRules => 0,
+        Answer::NotCper => 0,
         Answer::BadHeader => 0,
         Answer::Empty => 0,
         Answer::SpansFull => 0,

@@ -7,22 +7,17 @@ use Prim.Native.Nat.{ℕ, zero, suc, _+_, _-_, _≤_, _<_, min}
 use native.Mathlib.Omega.{arith}
 use native.Mathlib.Nat.{add-zero}
 use lib.ListN.{length, getD, take, drop, set, length-take, length-drop, length-append}
-use lib.Seq.{getD-set-same, getD-set-other, drop-drop, take-nil, take-take, take-all}
+use lib.Seq.{getD-set-same, getD-set-other, drop-drop, take-take, take-all}
 use Rattle.basics.proofs.Orders.{le-or-lt}
+use Rattle.basics.proofs.Parts.{drop-take}
 use Rattle.header_judge.specs.declared.Head.{Head}
 use Rattle.header_judge.specs.Head.{headOf}
 use Rattle.region_rows.specs.declared.Span.{Span}
 use Rattle.region_try.specs.Tries.{Try, none, hit, tryOf, deepest, rowsFound, within, boxTries, regionTries}
-use Rattle.region_try.proofs.Tries.{records-end, records-first, records-stop, records-hit}
+use Rattle.region_try.proofs.Tries.{rows-append, records-end, records-first, records-stop, records-hit}
 use Rattle.region_flat.specs.declared.walk.Level.{Level}
 
 -- ---- rows
-
-rows-append : (us vs : List Try) → rowsFound (us ++ vs) ≡ rowsFound us ++ rowsFound vs
-unfolding rowsFound
-rows-append [] vs = refl
-rows-append (none l o head ∷ us) vs = rows-append us vs
-rows-append (hit r ∷ us) vs = ap (λ (rs : List Span). r ∷ rs) (rows-append us vs)
 
 rows-none : (l o : ℕ) (head : Head) (n : ℕ) → n + length (rowsFound (none l o head ∷ [])) ≡ n
 unfolding rowsFound
@@ -35,12 +30,6 @@ rows-hit r us vs n =
     omega arith
 
 -- ---- a part of some bytes
-
-drop-take : (d k : ℕ) (xs : List ℕ) → drop d (take k xs) ≡ take (k - d) (drop d xs)
-drop-take zero k xs = let e : k - 0 ≡ k = omega arith in rw e
-drop-take (suc d) zero xs = let e : zero - suc d ≡ zero = omega arith in rw e
-drop-take (suc d) (suc k) [] = sym (take-nil (suc k - suc d))
-drop-take (suc d) (suc k) (x ∷ xs) = let e : suc k - suc d ≡ k - d = omega arith in rw e (drop-take d k xs)
 
 take-least : (d k h : ℕ) (xs : List ℕ) → h ≡ min d k → take d (take k xs) ≡ take h xs
 take-least d k h xs e =

@@ -12,17 +12,17 @@ use Rattle.header_judge.specs.Version.{wordOf}
 use Rattle.header_judge.specs.Head.{declaredOf, headOf}
 use Rattle.header_judge.specs.declared.Summary.{Summary}
 use Rattle.header_judge.specs.declared.Head.the-variants.{Record}
-use Rattle.region_try.specs.Tries.{allTries}
-use Rattle.region_rows.specs.Rows.{capacity}
+use Rattle.region_try.specs.Tries.{deepest, allTries}
+use Rattle.region_rows.specs.Rows.{top, capacity}
 use Rattle.region.specs.Listing.{walked, listed}
 use Rattle.region.specs.declared.Listing.{Listing}
-use Rattle.region_try.proofs.Bound.{Units, all-bound, bytes-are-units}
-use Rattle.region_laws.specs.Positions.{visited}
+use Rattle.region_try.proofs.Bound.{Units, region-bound, all-bound, bytes-are-units}
+use Rattle.region_laws.specs.Positions.{visitedFrom, visited}
 use Rattle.region.proofs.Shows.{listed-cases}
 use Rattle.header_judge.proofs.Heads.{record-told}
 use Rattle.region_laws.specs.Whole.{mostOf, fours}
 use Rattle.region_laws.proofs.Shown.{tries-le}
-use Rattle.region_laws.proofs.Positions.{tries-visited}
+use Rattle.region_laws.proofs.Positions.{region-tries-visited}
 
 -- ---- sizes in fours
 
@@ -48,8 +48,8 @@ module _ (rules : List ℕ) (words : noneHas sizesInBytes (rulesOf rules) ≡ tr
 -- ---- the positions visited
 
 module _ (rules : List ℕ) (u : ℕ → ℕ) (units : Units rules u) where
-  visited-bound : (bytes : List ℕ) → length (visited rules bytes) ≤ 5 * u (length bytes)
-  visited-bound bytes = rw tries-visited at (all-bound rules u units bytes)
+  visited-bound : (at : ℕ) (bytes : List ℕ) → length (visitedFrom rules at bytes) ≤ 5 * u (length bytes)
+  visited-bound at bytes = rw region-tries-visited at (region-bound rules u units deepest bytes at top 0)
 
   listed-bound : (bytes : List ℕ) (limit : ℕ) (t : List ℕ) → listed rules bytes limit t .1 .tries ≤ 5 * u (length bytes)
   unfolding walked
@@ -58,15 +58,21 @@ module _ (rules : List ℕ) (u : ℕ → ℕ) (units : Units rules u) where
       (omega (arith, tries-le limit (capacity t) (allTries rules bytes), all-bound rules u units bytes))
 
 -- at most 5 times n
+pub visited-from-five-times : (rules : List ℕ) (at : ℕ) (bytes : List ℕ) → length (visitedFrom rules at bytes) ≤ mostOf (length bytes)
+visited-from-five-times rules = visited-bound rules (λ n. n) (bytes-are-units rules)
+
 pub visited-five-times : (rules bytes : List ℕ) → length (visited rules bytes) ≤ mostOf (length bytes)
-visited-five-times rules bytes = visited-bound rules (λ n. n) (bytes-are-units rules) bytes
+visited-five-times rules bytes = visited-from-five-times rules 0 bytes
 
 pub tries-five-times : (rules bytes : List ℕ) (limit : ℕ) (t : List ℕ) → listed rules bytes limit t .1 .tries ≤ mostOf (length bytes)
 tries-five-times rules bytes limit t = listed-bound rules (λ n. n) (bytes-are-units rules) bytes limit t
 
 -- at most 5 times n/4 rounded up, where no rule selects byte sizes
+pub visited-from-five-times-fours : (rules : List ℕ) → noneHas sizesInBytes (rulesOf rules) ≡ true → (at : ℕ) (bytes : List ℕ) → length (visitedFrom rules at bytes) ≤ mostOf (fours (length bytes))
+visited-from-five-times-fours rules words = visited-bound rules fours (fours-are-units rules words)
+
 pub visited-five-times-fours : (rules bytes : List ℕ) → noneHas sizesInBytes (rulesOf rules) ≡ true → length (visited rules bytes) ≤ mostOf (fours (length bytes))
-visited-five-times-fours rules bytes words = visited-bound rules fours (fours-are-units rules words) bytes
+visited-five-times-fours rules bytes words = visited-from-five-times-fours rules words 0 bytes
 
 pub tries-five-times-fours : (rules bytes : List ℕ) (limit : ℕ) (t : List ℕ) → noneHas sizesInBytes (rulesOf rules) ≡ true → listed rules bytes limit t .1 .tries ≤ mostOf (fours (length bytes))
 tries-five-times-fours rules bytes limit t words = listed-bound rules fours (fours-are-units rules words) bytes limit t

@@ -1,4 +1,4 @@
--- A listing is whole exactly when each of document 02's four clauses holds.
+-- A listing is whole exactly when each of document 02's four clauses holds; three of them a region meets by itself.
 -- By taking `whole` apart over the tries: those that stop a region are the regions' stops, the others the rows. Assumes nothing.
 use mathlib.Core.Path.{_≡_, refl, ap, ap₂, sym, _∙_}
 use mathlib.Core.List.{List, [], _∷_, _++_}
@@ -22,12 +22,14 @@ use Rattle.region_try.specs.Tries.{Try, none, hit, spanOf, tryOf, deepest, rows
 use Rattle.region_try.specs.Whole.{cleanStop, filled, boxUnopened, keepsWhole, allKeepWhole}
 use Rattle.region_try.specs.declared.stop.Stop as Stop
 use Rattle.region_try.specs.declared.stop.Stop.{Stop}
-use Rattle.region.specs.Listing.{Shown, numberOf, topStands, shown, showing, walked, listed}
+use Rattle.region.specs.Listing.{Shown, numberOf, wholeOf, topStands, shown, showing, walked, listed}
+use Rattle.region.specs.declared.Answer.{Answer}
 use Rattle.region.specs.declared.Listing.{Listing}
 use Rattle.region.proofs.Shows.{listed-cases}
 use Rattle.region_laws.specs.Nested.{byHead, following, Gather, inRegion, inBox, gathered}
 use Rattle.region_laws.specs.Reach.{onto, reach, standingIn, standingLast}
-use Rattle.region_laws.specs.Clauses.{Every, rowsOf, regionsWalked, Answered, Held, Clean, StoppedClean, Opened, IsWhole}
+use Rattle.region_laws.specs.Clauses.{Every, rowsOf, regionsWalked, Answered, Held, Clean, StoppedClean, Opened, IsWhole, KeepsWhole}
+use Rattle.region_laws.specs.Whole.{allRows}
 use Rattle.region_laws.proofs.Shown.{going-rows}
 use Rattle.region_laws.proofs.Refusals.{uncut}
 use Rattle.region_laws.proofs.Reach.{told-stands}
@@ -211,13 +213,16 @@ opened-exactly r = (λ e boxed level size. shut boxed level size (not-true (boxU
         let sizes = both (ltb (r .level) deepest) (ltb (r .held) (r .size)) (boxed .1) in
         absurd (f (boxed .0) (ltb-true _ _ (sizes .0)) (ltb-true _ _ (sizes .1)))
 
+-- `whole` by the answer and the tries
+pub whole-by : (answer : Answer) (vs : List Try) → (wholeOf answer vs ≡ true) ↔ ((numberOf answer ≡ 0) × (allKeepWhole vs ≡ true))
+whole-by answer vs = (
+  λ w. let q = both (eqb (numberOf answer) 0) (allKeepWhole vs) w in (eqb-true _ _ (q .0), q .1),
+  λ q. rw (eq-eqb _ _ (q .0), q .1),
+)
+
 module _ (rules bytes : List ℕ) where
   abbrev rows : List Span
-  rows = rowsFound (allTries rules bytes)
-
-  -- every try keeps it whole: the regions, the rows and the Boxes each do
-  parts : allKeepWhole (allTries rules bytes) ≡ (all (clean rules) (regionsWalked rules bytes) && (all filled rows && all opens rows))
-  parts = keeps-parts (allTries rules bytes) ∙ ap₂ (λ (a c : Bool). a && c) (all-clean rules bytes) (all-both filled opens rows)
+  rows = allRows rules bytes
 
   each-held : (all filled rows ≡ true) ↔ Every Held rows
   each-held = all-every filled Held held-exactly rows
@@ -227,6 +232,19 @@ module _ (rules bytes : List ℕ) where
 
   each-opened : (all opens rows ≡ true) ↔ Every Opened rows
   each-opened = all-every opens Opened opened-exactly rows
+
+  -- every try keeps it whole: the regions, the rows and the Boxes each do
+  parts : allKeepWhole (allTries rules bytes) ≡ (all (clean rules) (regionsWalked rules bytes) && (all filled rows && all opens rows))
+  parts = keeps-parts (allTries rules bytes) ∙ ap₂ (λ (a c : Bool). a && c) (all-clean rules bytes) (all-both filled opens rows)
+
+  pub keeps-exactly : (allKeepWhole (allTries rules bytes) ≡ true) ↔ KeepsWhole rules bytes
+  keeps-exactly = (
+    λ e.
+        let regions = both (all (clean rules) (regionsWalked rules bytes)) (all filled rows && all opens rows) (sym parts ∙ e) in
+        let each = both (all filled rows) (all opens rows) (regions .1) in
+        record { held = each-held .0 (each .0); stopped = each-stopped .0 (regions .0); opened = each-opened .0 (each .1) },
+    λ k. rw (parts, each-stopped .1 (k .stopped), each-held .1 (k .held), each-opened .1 (k .opened)),
+  )
 
   module _ (limit : ℕ) (t : List ℕ) where
     abbrev seen : Shown
@@ -241,24 +259,17 @@ module _ (rules bytes : List ℕ) where
         spans-laid (seen .rows) t
         ∙ going-rows limit (capacity t) (allTries rules bytes) (uncut (seen .cut) (length (seen .rows)) (stopOf (topStands rules bytes)) (badTypeOf (topStands rules bytes)) (omega (arith, e)))
 
-    whole-clauses : end .1 .whole ≡ true → IsWhole rules bytes end
-    whole-clauses w =
-        let q = both (eqb (numberOf (end .1 .answer)) 0) (allKeepWhole (allTries rules bytes)) w in
-        let answered : Answered end = eqb-true _ _ (q .0) in
-        let regions = both (all (clean rules) (regionsWalked rules bytes)) (all filled rows && all opens rows) (sym parts ∙ q .1) in
-        let each = both (all filled rows) (all opens rows) (regions .1) in
-        record {
-          answered = answered;
-          held = rw (rows-are answered) (each-held .0 (each .0));
-          stopped = each-stopped .0 (regions .0);
-          opened = rw (rows-are answered) (each-opened .0 (each .1));
-        }
-
-    clauses-whole : IsWhole rules bytes end → end .1 .whole ≡ true
-    clauses-whole x =
-        let held = each-held .1 (rw (rows-are (x .answered)) at (x .held)) in
-        let opened = each-opened .1 (rw (rows-are (x .answered)) at (x .opened)) in
-        rw (eq-eqb _ _ (x .answered), parts, each-stopped .1 (x .stopped), held, opened)
+    clauses : (end .1 .whole ≡ true) ↔ IsWhole rules bytes end
+    clauses = (
+      λ w.
+          let q = whole-by (end .1 .answer) (allTries rules bytes) .0 w in
+          let k = keeps-exactly .0 (q .1) in
+          record { answered = q .0; held = rw (rows-are (q .0)) (k .held); stopped = k .stopped; opened = rw (rows-are (q .0)) (k .opened) },
+      λ x.
+          let e = rows-are (x .answered) in
+          whole-by (end .1 .answer) (allTries rules bytes) .1
+          (x .answered, keeps-exactly .1 (record { held = rw e at (x .held); stopped = x .stopped; opened = rw e at (x .opened) })),
+    )
 
 module _ (rules bytes : List ℕ) (limit : ℕ) (t : List ℕ) where
   -- document 02, C-14
@@ -268,7 +279,7 @@ module _ (rules bytes : List ℕ) (limit : ℕ) (t : List ℕ) where
       listed-cases (λ (x : List ℕ × Listing). (x .1 .whole ≡ true) ↔ IsWhole rules bytes x) rules bytes limit t
       (λ e. absurd (let z : _≡_ {A = ℕ} 0 1 = cc in omega arith), λ x. absurd (let a = x .answered in omega arith))
       (λ e. absurd (let z : _≡_ {A = ℕ} 0 1 = cc in omega arith), λ x. absurd (let a = x .answered in omega arith))
-      (whole-clauses rules bytes limit t, clauses-whole rules bytes limit t)
+      (clauses rules bytes limit t)
 
   -- why the top region of a whole listing stopped, as it is told
   pub whole-stop : listed rules bytes limit t .1 .whole ≡ true → Clean (listed rules bytes limit t .1 .stop)

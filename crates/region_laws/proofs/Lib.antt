@@ -1,4 +1,5 @@
 pub mod Shown
+pub mod Tries
 pub mod Positions
 pub mod Bounds
 pub mod Limits

@@ -1,29 +1,22 @@
 -- The tries are made at the positions that the nested walk visits, in that order.
 -- By induction over the levels, and over the bytes within a level. Assumes nothing.
 use mathlib.Core.Path.{_≡_, refl, ap, ap₂, sym, _∙_}
-use mathlib.Core.List.{List, [], _∷_, _++_, map}
+use mathlib.Core.List.{List, [], _∷_, _++_, map, map-append}
 use mathlib.Core.Bool.{Bool, true, false, cond}
 use Prim.Native.Nat.{ℕ, zero, suc, _+_, _-_}
 use lib.Dec.{eqb, leb}
-use lib.ListN.{length, take, drop}
+use lib.ListN.{length, take, drop, length-map}
 use Rattle.header_judge.specs.declared.Head.{Head}
 use Rattle.header_judge.specs.declared.Head.the-variants.{Ended, BadHeader, BadType, Record}
 use Rattle.header_judge.specs.Head.{isBox, headOf}
 use Rattle.region_rows.specs.declared.Span.{Span}
+use Rattle.region_rows.specs.Rows.{top}
 use Rattle.region_try.specs.Tries.{spanOf, Try, none, hit, tryOf, deepest, rowsFound, Inside, within, onward, records, boxTries, regionTries, allTries}
 use Rattle.region_laws.specs.Nested.{byHead, following, Gather, inRegion, inBox, gathered}
-use Rattle.region_laws.specs.Positions.{offsetOf, visited}
+use Rattle.region_laws.specs.Positions.{offsetOf, visitedFrom, visited}
 
 abbrev offsets : List Try → List ℕ
 offsets vs = map offsetOf vs
-
-offsets-append : (us vs : List Try) → offsets (us ++ vs) ≡ offsets us ++ offsets vs
-offsets-append [] vs = refl
-offsets-append (u ∷ us) vs = ap (λ (l : List ℕ). offsetOf u ∷ l) (offsets-append us vs)
-
-length-offsets : (vs : List Try) → length (offsets vs) ≡ length vs
-length-offsets [] = refl
-length-offsets (v ∷ vs) = ap suc (length-offsets vs)
 
 module _ (rules : List ℕ) where
   -- the positions in a region, and inside a Box
@@ -63,7 +56,7 @@ module _ (rules : List ℕ) where
         by true = refl
         by false =
             ap (λ (l : List ℕ). offset ∷ l)
-            (offsets-append tries (rest (s .declared - 1) (n + 1 + length (rowsFound tries)))
+            (map-append offsetOf tries (rest (s .declared - 1) (n + 1 + length (rowsFound tries)))
             ∙ ap₂ (λ (a b : List ℕ). a ++ b) (within-at (isBox (s .word) (s .flags)) (take (s .declared) bs) offset (s .size) n) (e (s .declared - 1) (n + 1 + length (rowsFound tries))))
 
     records-at : (levels parent skip : ℕ) (bs : List ℕ) (offset n : ℕ) → offsets (records rules box levels parent skip bs offset n) ≡ positionsIn inside skip bs offset
@@ -86,10 +79,19 @@ module _ (rules : List ℕ) where
       by agree true = records-at (boxTries rules l) (positionsOf l) agree l row 0 (drop size held) (offset + size) (row + 1)
       by agree false = refl
 
+  -- in a region that starts at an offset, and before which so many rows stand
+  pub region-tried-at : (bytes : List ℕ) (at n : ℕ) → map offsetOf (regionTries rules deepest bytes at top n) ≡ visitedFrom rules at bytes
+  unfolding regionTries gathered
+  region-tried-at bytes at n = records-at (boxTries rules deepest) (positionsOf deepest) (box-at deepest) deepest top 0 bytes at n
+
+  pub region-tries-visited : (bytes : List ℕ) (at n : ℕ) → length (regionTries rules deepest bytes at top n) ≡ length (visitedFrom rules at bytes)
+  region-tries-visited bytes at n = sym (length-map (regionTries rules deepest bytes at top n) offsetOf) ∙ ap length (region-tried-at bytes at n)
+
   -- each try is made at the next position that the walk visits
   pub tried-at-visited : (bytes : List ℕ) → map offsetOf (allTries rules bytes) ≡ visited rules bytes
-  unfolding allTries regionTries gathered
-  tried-at-visited bytes = records-at (boxTries rules deepest) (positionsOf deepest) (box-at deepest) deepest _ 0 bytes 0 0
+  unfolding allTries
+  tried-at-visited bytes = region-tried-at bytes 0 0
 
   pub tries-visited : (bytes : List ℕ) → length (allTries rules bytes) ≡ length (visited rules bytes)
-  tries-visited bytes = sym (length-offsets (allTries rules bytes)) ∙ ap length (tried-at-visited bytes)
+  unfolding allTries
+  tries-visited bytes = region-tries-visited bytes 0 0

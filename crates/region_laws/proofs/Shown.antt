@@ -8,8 +8,9 @@ use lib.ListN.{length, take, drop}
 use Rattle.region_rows.specs.declared.Span.{Span}
 use Rattle.region_try.specs.Tries.{Try, none, hit, rowsFound}
 use Rattle.region.specs.Listing.{Shown, tried, triedRow, shown}
-use Rattle.region_try.specs.declared.Cut.the-variants.{Going, Spent}
+use Rattle.region_try.specs.declared.Cut.the-variants.{Going}
 use Rattle.region_try.proofs.Runs.{spent-going, full-going}
+use Rattle.region_laws.specs.Whole.{rowsFirst, allShown, firstShown}
 
 pub tries-le : (limit room : ℕ) (vs : List Try) → shown limit room vs .tries ≤ length vs
 unfolding shown
@@ -28,7 +29,7 @@ tries-le-limit (suc limit) zero (hit r ∷ vs) = omega arith
 tries-le-limit (suc limit) (suc room) (hit r ∷ vs) = let h : shown limit room vs .tries ≤ limit = tries-le-limit limit room vs in omega arith
 
 -- the rows shown, for any room
-pub rows-shown : (limit room : ℕ) (vs : List Try) → shown limit room vs .rows ≡ take room (rowsFound (take limit vs))
+pub rows-shown : (limit room : ℕ) (vs : List Try) → shown limit room vs .rows ≡ take room (rowsFirst limit vs)
 unfolding shown rowsFound
 rows-shown zero zero [] = refl
 rows-shown zero (suc room) [] = refl
@@ -42,7 +43,7 @@ rows-shown (suc limit) (suc room) (hit r ∷ vs) = ap (λ (rs : List Span). r �
 
 -- nothing is cut off
 pub all-shown : (limit room : ℕ) (vs : List Try) → length vs ≤ limit → length (rowsFound vs) ≤ room
-    → shown limit room vs ≡ record { rows = rowsFound vs; tries = length vs; cut = Going }
+    → shown limit room vs ≡ allShown (length vs) vs
 unfolding shown rowsFound
 all-shown limit room [] h g = refl
 all-shown zero room (v ∷ vs) h g = absurd (omega arith)
@@ -50,18 +51,21 @@ all-shown (suc limit) room (none l o head ∷ vs) h g = ap (λ (s : Shown). trie
 all-shown (suc limit) zero (hit r ∷ vs) h g = absurd (omega arith)
 all-shown (suc limit) (suc room) (hit r ∷ vs) h g = ap (λ (s : Shown). triedRow r s) (all-shown limit room vs (omega arith) (omega arith))
 
--- where nothing is cut off, every row is shown
-pub going-rows : (limit room : ℕ) (vs : List Try) → shown limit room vs .cut ≡ Going → shown limit room vs .rows ≡ rowsFound vs
+-- what is not cut off is shown in whole
+pub going-shown : (limit room : ℕ) (vs : List Try) → shown limit room vs .cut ≡ Going → shown limit room vs ≡ allShown (length vs) vs
 unfolding shown rowsFound
-going-rows limit room [] e = refl
-going-rows zero room (v ∷ vs) e = absurd (spent-going e)
-going-rows (suc limit) room (none l o head ∷ vs) e = going-rows limit room vs e
-going-rows (suc limit) zero (hit r ∷ vs) e = absurd (full-going e)
-going-rows (suc limit) (suc room) (hit r ∷ vs) e = ap (λ (rs : List Span). r ∷ rs) (going-rows limit room vs e)
+going-shown limit room [] e = refl
+going-shown zero room (v ∷ vs) e = absurd (spent-going e)
+going-shown (suc limit) room (none l o head ∷ vs) e = ap (λ (s : Shown). tried s) (going-shown limit room vs e)
+going-shown (suc limit) zero (hit r ∷ vs) e = absurd (full-going e)
+going-shown (suc limit) (suc room) (hit r ∷ vs) e = ap (λ (s : Shown). triedRow r s) (going-shown limit room vs e)
+
+pub going-rows : (limit room : ℕ) (vs : List Try) → shown limit room vs .cut ≡ Going → shown limit room vs .rows ≡ rowsFound vs
+going-rows limit room vs e = ap (λ (s : Shown). s .rows) (going-shown limit room vs e)
 
 -- the limit cuts off
 pub cut-shown : (limit room : ℕ) (vs : List Try) → limit < length vs → length (rowsFound vs) ≤ room
-    → shown limit room vs ≡ record { rows = rowsFound (take limit vs); tries = limit; cut = Spent }
+    → shown limit room vs ≡ firstShown limit vs
 unfolding shown rowsFound
 cut-shown limit room [] h g = absurd (omega arith)
 cut-shown zero room (v ∷ vs) h g = refl
@@ -77,7 +81,7 @@ rows-le (none l o head ∷ vs) = let h : length (rowsFound vs) ≤ length vs = r
 rows-le (hit r ∷ vs) = let h : length (rowsFound vs) ≤ length vs = rows-le vs in omega arith
 
 -- the rows of the first tries begin those of all
-pub rows-split : (limit : ℕ) (vs : List Try) → rowsFound vs ≡ rowsFound (take limit vs) ++ rowsFound (drop limit vs)
+pub rows-split : (limit : ℕ) (vs : List Try) → rowsFound vs ≡ rowsFirst limit vs ++ rowsFound (drop limit vs)
 unfolding rowsFound
 rows-split zero vs = refl
 rows-split (suc limit) [] = refl

@@ -15,6 +15,7 @@ use Rattle.region.specs.Listing.{numberOf}
 use Rattle.region.specs.declared.Listing.{Listing}
 use Rattle.region_laws.specs.Nested.{gathered}
 use Rattle.region_laws.specs.Reach.{standingLast}
+use Rattle.region_laws.specs.Whole.{allRows}
 
 -- ---- what the clauses speak of
 
@@ -29,7 +30,7 @@ rowsOf end = spansIn (end .0) (end .1 .rows)
 
 -- the regions walked where nothing is cut off: the whole input, and what each opened Box holds after its header
 abbrev pub regionsWalked : List ℕ → List ℕ → List (List ℕ)
-regionsWalked rules bytes = gathered rules (λ region. region ∷ []) (λ at. []) bytes
+regionsWalked rules bytes = gathered rules (λ region. region ∷ []) (λ at. []) 0 bytes
 
 -- ---- the clauses
 
@@ -58,3 +59,9 @@ pub record IsWhole (rules bytes : List ℕ) (end : List ℕ × Listing) : Type 0
   pub held : Every Held (rowsOf end)
   pub stopped : Every (StoppedClean rules) (regionsWalked rules bytes)
   pub opened : Every Opened (rowsOf end)
+
+-- the last three of a region by itself, over all that its walk finds
+pub record KeepsWhole (rules bytes : List ℕ) : Type 0 where
+  pub held : Every Held (allRows rules bytes)
+  pub stopped : Every (StoppedClean rules) (regionsWalked rules bytes)
+  pub opened : Every Opened (allRows rules bytes)

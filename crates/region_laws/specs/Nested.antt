@@ -41,6 +41,6 @@ module _ {A : Type 0} (rules : List ℕ) (opened : List ℕ → List A) (tried :
   inBox zero at held size = []
   inBox (suc levels) at held size = cond (leb size (length held)) (opened (drop size held) ++ inRegion (inBox levels) 0 (drop size held) (at + size)) []
 
-  -- in the whole input
-  unfoldable pub gathered : List ℕ → List A
-  gathered bytes = opened bytes ++ inRegion (inBox deepest) 0 bytes 0
+  -- in a whole input that starts at an offset
+  unfoldable pub gathered : ℕ → List ℕ → List A
+  gathered at bytes = opened bytes ++ inRegion (inBox deepest) 0 bytes at

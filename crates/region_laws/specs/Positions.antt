@@ -9,6 +9,10 @@ abbrev pub offsetOf : Try → ℕ
 offsetOf (none level offset head) = offset
 offsetOf (hit r) = r .offset
 
--- the header positions that the nested walk visits in the whole input
+-- the header positions that the nested walk visits in an input that starts at an offset
+abbrev pub visitedFrom : List ℕ → ℕ → List ℕ → List ℕ
+visitedFrom rules at bytes = gathered rules (λ region. []) (λ at. at ∷ []) at bytes
+
+-- and in the whole input
 abbrev pub visited : List ℕ → List ℕ → List ℕ
-visited rules bytes = gathered rules (λ region. []) (λ at. at ∷ []) bytes
+visited rules bytes = visitedFrom rules 0 bytes

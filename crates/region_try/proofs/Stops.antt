@@ -14,9 +14,19 @@ use Rattle.header_judge.specs.declared.version.Ending.{Ending}
 use Rattle.header_judge.specs.declared.version.Ending.the-variants.{ZeroWord, DeadbeefWord, FewBytes}
 use Rattle.header_judge.specs.declared.Head.{Head}
 use Rattle.region_rows.specs.declared.Span.{Span}
-use Rattle.region_try.specs.Stops.{noByte, header, stopEnded, stopNumber}
+use Rattle.region_try.specs.Stops.{unknown, noByte, header, standingTold, stopEnded, stopNumber}
 use Rattle.region_try.specs.Tries.{Try, none, hit, tryOf, deepest, rowsFound, standsAt, Inside, within, onward, records, boxTries}
+use Rattle.region_try.specs.declared.Cut.{Cut}
+use Rattle.region_try.specs.declared.Cut.the-variants.{Going, Full, Spent}
 use Rattle.region_try.proofs.Heads.{none-level}
+
+-- of what is unknown nothing is told
+pub told-unknown : (cut : Cut) → standingTold cut unknown ≡ unknown
+told-unknown Going = refl
+told-unknown Full = refl
+told-unknown Spent = refl
+
+-- ---- where a region stops
 
 pub stands-none : (l : ℕ) → standsAt l [] ≡ noByte
 unfolding standsAt

@@ -14,6 +14,13 @@ use Rattle.header_judge.specs.Head.{isBox, headOf}
 use Rattle.region_rows.specs.declared.Span.{Span}
 use Rattle.region_try.specs.Tries.{Try, none, hit, tryOf, deepest, rowsFound, Inside, within, onward, records, boxTries, regionTries}
 
+-- the rows of some tries and then of others
+pub rows-append : (us vs : List Try) → rowsFound (us ++ vs) ≡ rowsFound us ++ rowsFound vs
+unfolding rowsFound
+rows-append [] vs = refl
+rows-append (none l o head ∷ us) vs = rows-append us vs
+rows-append (hit r ∷ us) vs = ap (λ (rs : List Span). r ∷ rs) (rows-append us vs)
+
 module _ (rules : List ℕ) (box : Inside) (levels parent : ℕ) where
   records-skip : (k : ℕ) (bs : List ℕ) (offset n : ℕ) → records rules box levels parent k bs offset n ≡ records rules box levels parent 0 (drop k bs) (offset + k) n
   unfolding records

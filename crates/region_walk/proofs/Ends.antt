@@ -6,7 +6,7 @@ use Prim.Native.Nat.{ℕ, _-_}
 use Rattle.header_judge.specs.declared.Head.{Head}
 use Rattle.region_try.specs.Stops.{Standing, unknown, noByte, header, standingTold}
 use Rattle.region_try.specs.Tries.{Try, none, tryOf, deepest}
-use Rattle.region_try.specs.Steps.{Walk, step, run}
+use Rattle.region_try.specs.Steps.{Walk, state, step, run}
 use Rattle.region_try.specs.declared.Cut.{Cut}
 use Rattle.region_try.specs.declared.Cut.the-variants.{Going, Full, Spent}
 use Rattle.region_try.proofs.Stops.{stands-none, stands-here}
@@ -54,3 +54,10 @@ module _ (limit room levels : ℕ) where
   ends-stop parent offset left head m m₁ is made =
       ap₂ endWhere (stands-here (deepest - levels) parent offset left head [] is)
       (run-first (tryOf (deepest - levels) parent offset left head) m m₁ made [] ∙ run-none limit room m₁)
+
+-- ---- the counts alone
+
+-- those at the end of a walk are the walk's
+pub end-counts : (standing : Standing) (m : Walk) {t : List ℕ} {w : Walked} → _≡_ {A = List ℕ × Walked} (t, w) (endWhere standing m)
+    → _≡_ {A = Walk} (t, state (w .rows) (w .tries) (w .whole) (w .cut)) m
+end-counts standing m e = ap (λ (x : List ℕ × Walked). (x .0, state (x .1 .rows) (x .1 .tries) (x .1 .whole) (x .1 .cut))) e

@@ -38,7 +38,7 @@ use Rattle.region_try.proofs.Whole.{keeps-stop, keeps-plain, keeps-box}
 use Rattle.region_try.proofs.Runs.{spent-going, full-going, step-spent, step-made, run-none, run-cons, run-append, run-cut, run-rows}
 use Rattle.region_walk.specs.Steps.{walkEnd, endWhere, standsIn, regionEnd}
 use Rattle.region_walk.specs.declared.Walked.{Walked}
-use Rattle.region_walk.proofs.Ends.{cutOff, end-cut, ends-none, ends-cut, ends-stop}
+use Rattle.region_walk.proofs.Ends.{cutOff, end-cut, ends-none, ends-cut, ends-stop, end-counts}
 
 -- ---- parts of a list
 
@@ -71,8 +71,7 @@ pub child-counts : (rules : List ℕ) (limit room levels : ℕ) (held : List ℕ
     → {t : List ℕ} {w : Walked} → _≡_ {A = List ℕ × Walked} (t, w) (regionEnd limit room (levels - 1) (regionTries rules (levels - 1) (drop size held) (base + size) row (row + 1)) m)
     → _≡_ {A = Walk} (t, state (w .rows) (w .tries) (w .whole) (w .cut)) (run limit room (boxTries rules levels held base size row) m)
 child-counts rules limit room levels held base size row m p h e =
-    rw (box-open rules levels held base size row p h)
-    (ap (λ (x : List ℕ × Walked). (x .0, state (x .1 .rows) (x .1 .tries) (x .1 .whole) (x .1 .cut))) e)
+    rw (box-open rules levels held base size row p h) (end-counts _ _ e)
 
 -- ---- the region from a position on
 

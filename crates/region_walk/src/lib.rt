@@ -55,7 +55,7 @@ pub fn walk_end(rows: u32, tries: u64, whole: bool, cut: Cut, stop: Stop, bad_ty
     }
 }
 
-fn counts(rows: u32, tries: u64, whole: bool, cut: Cut) -> State
+pub fn counts(rows: u32, tries: u64, whole: bool, cut: Cut) -> State
     ensures { λ r. ⌜ r ≡ state rows tries whole cut ⌝ }
 {
     State {

@@ -1,17 +1,17 @@
 -- `list` gives the listing, whose rows fit the table.
 -- The walk from the top, its answer and its mark are those of the definition. Assumes nothing.
-use mathlib.Core.Path.{_≡_, sym, subst, _∙_}
-use mathlib.Core.List.{List}
+use mathlib.Core.Path.{_≡_, sym, ap, _∙_}
 use mathlib.Core.Bool.{true, false}
-use Prim.Native.Nat.{ℕ, _/_}
+use Prim.Native.Nat.{ℕ, _/_, min}
 use native.Mathlib.Omega.{arith}
 use borrow.Author.Tests.{not-true, not-false}
 use denote.Ref.{now}
 use lib.ListN.{length}
 use Rattle.rules.specs.Rules.{validOf}
-use Rattle.rules.specs.Columns.{columnsOf, Blank}
 use Rattle.rules.proofs.Laws.{valid-rows}
-use Rattle.rules.proofs.ColumnRows.{Holds, columns-hold}
+use Rattle.region_rows.specs.Rows.{mostRows, capacity}
+use Rattle.region_walk.specs.Steps.{boundsOf}
+use Rattle.region_walk.proofs.Start.{start-table, start-sound}
 use Rattle.region.proofs.Shows.{listed-long, listed-rules, listed-run, with-fit}
 use borrow.Author.Needs.{needs}
 use Rattle.region.proofs.list.Statement.{statement}
@@ -41,13 +41,6 @@ good c = sym (c .before .valid .ensures) ∙ not-false (c .before .valid .result
 columns-of-requires : tie.Need-columns-of-requires
 columns-of-requires c κs = valid-rows (now (start (c .before) .args .rules)) (good c)
 
--- so their columns hold them
-held : (c : tie.Else2) → Holds (columnsOf (now (start (c .before) .args .rules))) (now (start (c .before) .args .rules)) (length (now (start (c .before) .args .rules)) / 3)
-held c =
-    let rules = now (start (c .before) .args .rules) in
-    let rows = valid-rows rules (good c) in
-    columns-hold rules (rows .0) (rows .1)
-
 -- what the walk is lent, from the place of its call
 abbrev bounded : tie.After-region-walk-arg → tie.After-bounds-of
 bounded c = c .before .before .before
@@ -55,36 +48,34 @@ bounded c = c .before .before .before
 abbrev laid-out : tie.After-bounds-of → tie.After-columns-of
 laid-out c = c .before .before .before
 
+-- the bounds are those that a walk starts with
+bounds-are : (c : tie.After-bounds-of) → (let a = start (laid-out c .before .before) .args in c .bounds-of .result ≡ boundsOf (a .limit) (min (capacity (now (a .spans))) mostRows) (length (now (a .rules)) / 3))
+bounds-are c =
+    let a = start (laid-out c .before .before) .args in
+    c .bounds-of .ensures ∙ ap (λ (room : ℕ). boundsOf (a .limit) room (length (now (a .rules)) / 3)) (c .before .room-of .ensures)
+
 region-walk-requires : tie.Need-region-walk-requires
 region-walk-requires c κs =
-    let bounds = bounded c in
-    let passed = laid-out bounds .before in
-    let v = valid-rows (now (start (passed .before) .args .rules)) (good passed) in
-    rw (bounds .bounds-of .ensures)
-    (record {
+    let lent = bounded c in
+    let passed = laid-out lent .before in
+    let a = start (passed .before) .args in
+    record {
       offsets = search needs;
       deep = search needs;
-      sound = record {
-        limit = search needs;
-        room = search needs;
-        rows = search needs;
-        columns = search (needs, v);
-        blank = subst (λ (t : List ℕ). Blank t (length (now (start (passed .before) .args .rules)) / 3)) (sym (laid-out bounds .columns-of .ensures)) (held passed .blank);
-      };
-    })
+      sound = start-sound (now (a .rules)) (a .limit) (now (a .spans)) (good passed) (omega arith) (laid-out lent .columns-of .ensures) (bounds-are lent);
+    }
 
 returns-3 : tie.Need-returns-3
 returns-3 c =
     let walk = c .before .before .before in
-    let bounds = walk .before .before .before .before in
-    let columns = bounds .before .before .before in
-    let passed = columns .before in
+    let lent = walk .before .before .before .before in
+    let passed = laid-out lent .before in
     let a = start (passed .before) .args in
     let y = walk .region-walk in
     with-fit (now (a .rules)) (now (a .region)) (a .limit) (now (a .spans))
     (rw (c .listing-at .ensures)
     (listed-run (now (a .rules)) (now (a .region)) (a .limit) (now (a .spans)) (omega arith) (good passed) (y .last .1 .1 .1 .1 .1 .1 .1 .1 .1 .0, y .result)
-    (rw (bounds .bounds-of .ensures, bounds .before .room-of .ensures, columns .columns-of .ensures, held passed .held) at (y .ensures))))
+    (rw (lent .bounds-of .ensures, lent .before .room-of .ensures, laid-out lent .columns-of .ensures, start-table (now (a .rules)) (a .limit) (now (a .spans)) (good passed)) at (y .ensures))))
 
 pub list-spec : {M : Type 1} → statement M
 list-spec =
