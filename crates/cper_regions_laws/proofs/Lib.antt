@@ -1,0 +1,10 @@
+pub mod Positions
+pub mod Refusals
+pub mod Bounds
+pub mod Limits
+pub mod Answers
+pub mod Moved
+pub mod Clauses
+pub mod Lies
+pub mod One
+pub mod Examples
