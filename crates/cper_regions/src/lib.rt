@@ -138,8 +138,7 @@ pub fn list_cper(
         return region::refused(Answer::NotCper);
     }
     let columns = rules::columns::columns_of(rules);
-    let rule_rows = rules.len() / rules::NUMBERS_IN_RULE;
-    let bounds = region_walk::bounds_of(limit, region_rows::room_of(spans), rule_rows);
+    let bounds = region_walk::bounds_of(limit, rules, spans);
     let end = walk_sections(cper, record_id, &columns, &bounds, spans);
     let cut = end.cut;
     region::listing_at(walk_end(end.rows, end.tries, end.whole, cut, Stop::Untold, 0))

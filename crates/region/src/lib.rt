@@ -157,8 +157,7 @@ pub fn list(region: &[u8], rules: &[u32], limit: u64, spans: &mut [u32]) -> List
         return refused(Answer::BadRules);
     }
     let columns = rules::columns::columns_of(rules);
-    let rule_rows = rules.len() / rules::NUMBERS_IN_RULE;
-    let bounds = region_walk::bounds_of(limit, region_rows::room_of(spans), rule_rows);
+    let bounds = region_walk::bounds_of(limit, rules, spans);
     listing_at(region_walk::region_walk(
         region,
         &columns,

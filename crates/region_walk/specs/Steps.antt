@@ -1,10 +1,10 @@
 -- What a walk keeps to, lent as an array of numbers, and what the region walk and the Box walk give.
-use Prim.Native.Nat.{ℕ, _+_, _-_, _*_, _≤_, _<_, _^_}
+use Prim.Native.Nat.{ℕ, _+_, _-_, _*_, _/_, _≤_, _<_, _^_, min}
 use mathlib.Core.List.{List, [], _∷_}
 use mathlib.Core.Bool.{Bool}
 use lib.ListN.{length, getD}
 use Rattle.rules.specs.Columns.{rulesIn, Blank}
-use Rattle.region_rows.specs.Rows.{width}
+use Rattle.region_rows.specs.Rows.{width, capacity, mostRows}
 use Rattle.region_try.specs.Stops.{Standing, standingTold, stopOf, badTypeOf}
 use Rattle.region_try.specs.Tries.{Try, deepest, standsAt, boxTries, regionTries}
 use Rattle.region_try.specs.Steps.{Walk, state, run, boxWhole}
@@ -16,8 +16,8 @@ use Rattle.region_walk.specs.declared.Walked.{Walked}
 -- ---- the bounds
 
 -- the limit of tries, the rows that there is room for, the rows of the rule table
-abbrev pub boundsOf : ℕ → ℕ → ℕ → List ℕ
-boundsOf limit room ruleRows = limit ∷ room ∷ ruleRows ∷ []
+abbrev pub startBounds : ℕ → List ℕ → List ℕ → List ℕ
+startBounds limit rules t = limit ∷ min (capacity t) mostRows ∷ length rules / 3 ∷ []
 
 abbrev pub limitIn : List ℕ → ℕ
 limitIn bs = getD bs 0 0

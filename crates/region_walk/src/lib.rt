@@ -3,7 +3,7 @@
 ghost use mathlib.Core.Path.{_≡_};
 ghost use Prim.Native.Nat.{_<_};
 ghost use Rattle.region_try.specs.Steps.{state};
-ghost use Rattle.region_walk.specs.Steps.{boundsOf, roomIn, Walkable, walkEnd, going, regionRun, boxRun};
+ghost use Rattle.region_walk.specs.Steps.{startBounds, roomIn, Walkable, walkEnd, going, regionRun, boxRun};
 use header_judge::version::NO_WORD;
 use header_judge::version::word_of;
 use region_try::Cut;
@@ -26,10 +26,12 @@ const RULE_ROWS: usize = 2;
 
 pub const BOUNDS: usize = 3;
 
-pub fn bounds_of(limit: u64, room: u32, rule_rows: usize) -> [u64; BOUNDS]
-    ensures { λ r. ⌜ r ≡ boundsOf limit room «rule_rows» ⌝ }
+// Those of a walk under a limit and some rules into a table.
+pub fn bounds_of(limit: u64, rules: &[u32], spans: &[u32]) -> [u64; BOUNDS]
+    ensures { λ r. ⌜ r ≡ startBounds limit (now (rules .entry)) (now (spans .entry)) ⌝ }
 {
-    [limit, room as u64, rule_rows as u64]
+    let rule_rows = rules.len() / rules::NUMBERS_IN_RULE;
+    [limit, region_rows::room_of(spans) as u64, rule_rows as u64]
 }
 
 // How a region's walk ends: the counts, and why the region stops, with its bad type, where nothing cuts the walk off.

@@ -9,7 +9,8 @@ use lib.ListN.{length, take, drop, set, length-append}
 use lib.Seq.{sets, sets-eq, length-sets, take-length}
 use borrow.Rule.Slice.PartMut.{putMid}
 use Rattle.basics.proofs.Parts.{put-through}
-use Rattle.text.specs.Dump.{each}
+use Rattle.region.specs.declared.Listing.{Listing}
+use Rattle.text.specs.Dump.{each, textOfListing}
 use Rattle.text.specs.Steps.{Puts}
 
 sets-append : (xs ys l : List ℕ) (at : ℕ) → sets (sets l at xs) (at + length xs) ys ≡ sets l at (xs ++ ys)
@@ -54,11 +55,21 @@ through l text part at h e =
     }
 
 -- a text at the start: it stands there, and after it the buffer is as it was
-pub at-start : {before after text : List ℕ} {next m : ℕ} → Puts before 0 text m after next → next ≤ length before
+at-start : {before after text : List ℕ} {next m : ℕ} → Puts before 0 text m after next → next ≤ length before
     → (next ≡ length text) × (after ≡ text ++ drop next before)
 at-start {before} {after} {text} {next} p h =
     let e : next ≡ length text = p .ends ∙ zero-add (length text) in
     (e, p .bytes ∙ sets-eq text before 0 (omega (arith, e)) ∙ rw (← p .ends))
+
+-- the text of a table and its listing, at the start
+pub listing-at-start : {before after t : List ℕ} {l : Listing} {next m : ℕ} {x : List ℕ × Listing} → (t, l) ≡ x
+    → Puts before 0 (textOfListing (t, l)) m after next → next ≤ length before
+    → (next ≡ length (textOfListing x)) × (after ≡ textOfListing x ++ drop next before)
+listing-at-start e p h = at-start (rw e at p) h
+
+-- a text that stands at the start is within the buffer
+pub start-within : {next : ℕ} {after : List ℕ} (text rest : List ℕ) → (next ≡ length text) × (after ≡ text ++ rest) → next ≤ length after
+start-within text rest p = omega (arith, p .0, ap length (p .1) ∙ length-append text rest)
 
 -- ---- the texts of several things
 

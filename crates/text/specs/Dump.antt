@@ -9,9 +9,11 @@ use Rattle.header_judge.specs.Head.{noDie}
 use Rattle.header_judge.specs.Version.{recordType}
 use Rattle.region_rows.specs.declared.Span.{Span}
 use Rattle.region_rows.specs.Rows.{width, spansIn}
+use Rattle.region_try.specs.Stops.{Standing}
+use Rattle.region_try.specs.Tries.{Try}
 use Rattle.region.specs.declared.Answer.the-variants.{TooLong}
 use Rattle.region.specs.declared.Listing.{Listing}
-use Rattle.region.specs.Listing.{Shown, numberOf, refusal, listingOf, listed}
+use Rattle.region.specs.Listing.{Shown, numberOf, refusal, triesListing, listed}
 use Rattle.names.specs.Ascii.{ascii}
 use Rattle.names.specs.Names.{textOf}
 use Rattle.text.specs.Number.{decimal, hex}
@@ -79,17 +81,18 @@ listing region t = cond (ltb mostInput (length region)) (t, refusal TooLong) (li
 unfoldable pub textOfListing : List ℕ × Listing → List ℕ
 textOfListing x = heading ++ lines (spansIn (x .0) (x .1 .rows)) ++ lastLine (x .1)
 
--- the rows that a dump has room for, and a table of so many
+-- a table with room for so many rows
+unfoldable pub emptyTable : ℕ → List ℕ
+emptyTable rows = replicate (rows * width) 0
+
+-- the rows that a dump has room for
 abbrev pub mostRows : ℕ
 mostRows = 512
 
-unfoldable pub table : List ℕ
-table = replicate (mostRows * width) 0
-
 -- the text of a region
 unfoldable pub dumpText : List ℕ → List ℕ
-dumpText region = textOfListing (listing region table)
+dumpText region = textOfListing (listing region (emptyTable mostRows))
 
--- the text of what a listing with no rules shows
-abbrev pub shownText : List ℕ → Shown → List ℕ
-shownText region s = heading ++ lines (s .rows) ++ lastLine (listingOf [] region s)
+-- the text of what a listing shows of some tries; this stands where the top region stops
+abbrev pub shownText : Standing → List Try → Shown → List ℕ
+shownText standing tries s = heading ++ lines (s .rows) ++ lastLine (triesListing standing tries s)

@@ -1,3 +1,4 @@
 pub mod Dump
+pub mod CperDump
 pub mod Number
 pub mod Steps

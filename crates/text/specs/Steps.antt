@@ -1,5 +1,5 @@
 -- What the inner functions give: a text put into a buffer.
-use Prim.Native.Nat.{ℕ, _+_, _≤_}
+use Prim.Native.Nat.{ℕ, _+_, _*_, _≤_}
 use mathlib.Core.Path.{_≡_}
 use mathlib.Core.List.{List}
 use lib.ListN.{length}
@@ -21,10 +21,16 @@ mostDigits = 20
 abbrev pub mostColumn : ℕ
 mostColumn = 11
 
--- of a row's line
+-- of the heading, of a row's line and of the last line
+abbrev pub mostHeading : ℕ
+mostHeading = 58
+
 abbrev pub mostLine : ℕ
 mostLine = 103
 
--- of the last line
 abbrev pub mostLast : ℕ
 mostLast = 91
+
+-- of a text with so many rows
+abbrev pub mostText : ℕ → ℕ
+mostText rows = mostHeading + rows * mostLine + mostLast

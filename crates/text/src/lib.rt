@@ -1,4 +1,4 @@
-// The text of a dump, put into a lent buffer line by line.
+// The text of a dump, of a region or of a CPER, put into a lent buffer line by line.
 ghost use mathlib.Core.Path.{_≡_};
 ghost use mathlib.Core.List.{_++_};
 ghost use Prim.Native.Nat.{_+_, _*_, _≤_};
@@ -7,11 +7,13 @@ ghost use Rattle.header_judge.specs.Version.{recordType};
 ghost use Rattle.region_rows.specs.Rows.{width, spansIn};
 ghost use Rattle.names.specs.Names.{textOf};
 ghost use Rattle.text.specs.Number.{decimal};
-ghost use Rattle.text.specs.Dump.{each, column, versionColumn, dieColumn, rowLine, lines, yesNo, lastLine, listing, dumpText};
-ghost use Rattle.text.specs.Steps.{Puts, mostDigits, mostColumn, mostLine, mostLast};
+ghost use Rattle.text.specs.Dump.{each, column, versionColumn, dieColumn, rowLine, lines, yesNo, lastLine, listing, textOfListing, dumpText};
+ghost use Rattle.text.specs.CperDump.{cperDumpText};
+ghost use Rattle.text.specs.Steps.{Puts, mostDigits, mostColumn, mostLine, mostLast, mostText};
 
 mod put;
 
+use cper_regions::RECORD_ID_CRASHLOG;
 use header_judge::origin::NO_DIE;
 use header_judge::version::Version;
 use put::put_column;
@@ -22,24 +24,35 @@ use region::Answer;
 use region::Listing;
 use region_rows::Span;
 
-// The longest input, the most tries and the most rows.
+const NO_RULES: [u32; 0] = [];
+
+// The longest region, the most tries and the most rows.
 const MOST_INPUT: usize = 65535;
 
 const MOST_TRIES: u64 = 81920;
 
 const MOST_ROWS: usize = 512;
 
-const NO_RULES: [u32; 0] = [];
-
 const NUMBERS: usize = MOST_ROWS * region_rows::WIDTH;
 
-// The most bytes of a row's line and of the last line.
+// The most tries and the most rows of a CPER, whose length the listing judges.
+const MOST_CPER_TRIES: u64 = 1310720;
+
+const MOST_CPER_ROWS: usize = 4096;
+
+const CPER_NUMBERS: usize = MOST_CPER_ROWS * region_rows::WIDTH;
+
+// The most bytes of the heading, of a row's line and of the last line.
+const MOST_HEADING: usize = 58;
+
 const MOST_LINE: usize = 103;
 
 const MOST_LAST: usize = 91;
 
-// The most bytes of a text: the heading, the rows, and the last line.
-pub const MOST_TEXT: usize = 58 + MOST_ROWS * MOST_LINE + MOST_LAST;
+// The most bytes of a region's text, and of a CPER's.
+pub const MOST_TEXT: usize = MOST_HEADING + MOST_ROWS * MOST_LINE + MOST_LAST;
+
+pub const MOST_CPER_TEXT: usize = MOST_HEADING + MOST_CPER_ROWS * MOST_LINE + MOST_LAST;
 
 // The numbers that a row's line begins with.
 const COLUMNS: usize = 5;
@@ -162,17 +175,35 @@ fn listing_of(region: &[u8], spans: &mut [u32]) -> Listing
     region::list(region, &NO_RULES, MOST_TRIES, spans)
 }
 
-// The whole text, at the start of `out`; gives its length.
-pub fn dump(region: &[u8], out: &mut [u8; MOST_TEXT]) -> usize
-    ensures { λ r. ⌜ (r ≡ length (dumpText (now (region .entry)))) × (now (out .exit) ≡ dumpText (now (region .entry)) ++ drop r (now (out .entry))) ⌝ }
+// The whole text of a listing and the table with its rows, at the start of `out`.
+fn put_listing(out: &mut [u8], spans: &[u32], listing: Listing) -> usize
+    requires { ⌜ (listing .rows * width ≤ length (now spans)) × (mostText (listing .rows) ≤ length (now out)) ⌝ }
+    ensures { λ r. ⌜ Puts (now (out .entry)) 0 (textOfListing (now (spans .entry), listing)) (mostText (listing .rows)) (now (out .exit)) r ⌝ }
 {
-    let mut spans = [0u32; NUMBERS];
-    let listing = listing_of(region, &mut spans);
     let heading = put_text(
         out,
         0,
         b"level offset held declared header version socket die name\n",
     );
-    let rows = put_rows(out, heading, &spans, listing.rows as usize);
+    let rows = put_rows(out, heading, spans, listing.rows as usize);
     put_last(out, rows, listing)
+}
+
+// The whole text of a region, at the start of `out`; gives its length.
+pub fn dump(region: &[u8], out: &mut [u8; MOST_TEXT]) -> usize
+    ensures { λ r. ⌜ (r ≡ length (dumpText (now (region .entry)))) × (now (out .exit) ≡ dumpText (now (region .entry)) ++ drop r (now (out .entry))) ⌝ }
+{
+    let mut spans = [0u32; NUMBERS];
+    let listing = listing_of(region, &mut spans);
+    put_listing(out, &spans, listing)
+}
+
+// The whole text of a CPER, at the start of `out`; gives its length.
+pub fn dump_cper(cper: &[u8], out: &mut [u8; MOST_CPER_TEXT]) -> usize
+    ensures { λ r. ⌜ (r ≡ length (cperDumpText (now (cper .entry)))) × (now (out .exit) ≡ cperDumpText (now (cper .entry)) ++ drop r (now (out .entry))) ⌝ }
+{
+    let record_id = RECORD_ID_CRASHLOG;
+    let mut spans = [0u32; CPER_NUMBERS];
+    let listing = cper_regions::list_cper(cper, &record_id, &NO_RULES, MOST_CPER_TRIES, &mut spans);
+    put_listing(out, &spans, listing)
 }

@@ -1,16 +1,13 @@
 -- `list_cper` gives the listing of a CPER, whose rows fit the table.
 -- The walk of all regions is that of the definition. Assumes nothing.
-use mathlib.Core.Path.{_≡_, sym, ap, _∙_}
+use mathlib.Core.Path.{_≡_, sym, _∙_}
 use mathlib.Core.Bool.{true, false}
-use Prim.Native.Nat.{ℕ, _/_, _<_, _^_, min}
+use Prim.Native.Nat.{_<_, _^_}
 use native.Mathlib.Omega.{arith}
 use borrow.Author.Tests.{not-true, not-false}
 use denote.Ref.{now}
-use lib.ListN.{length}
 use Rattle.rules.specs.Rules.{validOf}
 use Rattle.rules.proofs.Laws.{valid-rows}
-use Rattle.region_rows.specs.Rows.{mostRows, capacity}
-use Rattle.region_walk.specs.Steps.{boundsOf}
 use Rattle.region_walk.proofs.Start.{start-table, start-sound}
 use Rattle.cper_header.specs.Record.{isCper}
 use Rattle.cper_sections.proofs.Checked.{header-whole}
@@ -64,13 +61,7 @@ columns-of-requires : tie.Need-columns-of-requires
 columns-of-requires c κs = valid-rows (now (begin c .args .rules)) (good (c .before .before))
 
 abbrev passed : tie.After-bounds-of → tie.Else3
-passed c = c .before .before .before .before
-
--- the bounds are those that a walk starts with
-bounds-are : (c : tie.After-bounds-of) → (let a = begin (passed c) .args in c .bounds-of .result ≡ boundsOf (a .limit) (min (capacity (now (a .spans))) mostRows) (length (now (a .rules)) / 3))
-bounds-are c =
-    let a = begin (passed c) .args in
-    c .bounds-of .ensures ∙ ap (λ (room : ℕ). boundsOf (a .limit) room (length (now (a .rules)) / 3)) (c .before .room-of .ensures)
+passed c = c .before .before .before
 
 limited : (c : tie.Start) → c .args .limit < 2 ^ 64
 limited c = omega arith
@@ -83,7 +74,7 @@ walk-sections-requires c κs =
       header-whole (now (a .cper)) (is p),
       record {
         short = omega arith;
-        sound = start-sound (now (a .rules)) (a .limit) (now (a .spans)) (good (p .before .before)) (limited (begin p)) (lent .before .before .before .columns-of .ensures) (bounds-are lent);
+        sound = start-sound (now (a .rules)) (a .limit) (now (a .spans)) (good (p .before .before)) (limited (begin p)) (lent .before .before .columns-of .ensures) (lent .bounds-of .ensures);
       },
     )
 
@@ -98,7 +89,7 @@ returns-4 c =
     with-fit (now (a .rules)) (now (a .cper)) (now (a .record-id)) (a .limit) (now (a .spans))
     (rw (c .listing-at .ensures, c .before .walk-end .ensures)
     (listed-run (now (a .rules)) (now (a .cper)) (now (a .record-id)) (a .limit) (now (a .spans)) (omega arith) (good (p .before .before)) (is p) (y .last .1 .1 .1 .1 .0, y .result)
-    (rw (lent .bounds-of .ensures, lent .before .room-of .ensures, lent .before .before .before .columns-of .ensures, start-table (now (a .rules)) (a .limit) (now (a .spans)) (good (p .before .before))) at (y .ensures))))
+    (rw (lent .bounds-of .ensures, lent .before .before .columns-of .ensures, start-table (now (a .rules)) (a .limit) (now (a .spans)) (good (p .before .before))) at (y .ensures))))
 
 pub list-cper-spec : {M : Type 1} → statement M
 list-cper-spec =
@@ -113,7 +104,6 @@ list-cper-spec =
     (λ c κs. search needs)
     returns-3
     columns-of-requires
-    (λ c κs. search needs)
     (λ c κs. search needs)
     walk-sections-requires
     (λ c κs. search needs)

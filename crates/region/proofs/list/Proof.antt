@@ -1,16 +1,12 @@
 -- `list` gives the listing, whose rows fit the table.
 -- The walk from the top, its answer and its mark are those of the definition. Assumes nothing.
-use mathlib.Core.Path.{_≡_, sym, ap, _∙_}
+use mathlib.Core.Path.{_≡_, sym, _∙_}
 use mathlib.Core.Bool.{true, false}
-use Prim.Native.Nat.{ℕ, _/_, min}
 use native.Mathlib.Omega.{arith}
 use borrow.Author.Tests.{not-true, not-false}
 use denote.Ref.{now}
-use lib.ListN.{length}
 use Rattle.rules.specs.Rules.{validOf}
 use Rattle.rules.proofs.Laws.{valid-rows}
-use Rattle.region_rows.specs.Rows.{mostRows, capacity}
-use Rattle.region_walk.specs.Steps.{boundsOf}
 use Rattle.region_walk.proofs.Start.{start-table, start-sound}
 use Rattle.region.proofs.Shows.{listed-long, listed-rules, listed-run, with-fit}
 use borrow.Author.Needs.{needs}
@@ -46,13 +42,7 @@ abbrev bounded : tie.After-region-walk-arg → tie.After-bounds-of
 bounded c = c .before .before .before
 
 abbrev laid-out : tie.After-bounds-of → tie.After-columns-of
-laid-out c = c .before .before .before
-
--- the bounds are those that a walk starts with
-bounds-are : (c : tie.After-bounds-of) → (let a = start (laid-out c .before .before) .args in c .bounds-of .result ≡ boundsOf (a .limit) (min (capacity (now (a .spans))) mostRows) (length (now (a .rules)) / 3))
-bounds-are c =
-    let a = start (laid-out c .before .before) .args in
-    c .bounds-of .ensures ∙ ap (λ (room : ℕ). boundsOf (a .limit) room (length (now (a .rules)) / 3)) (c .before .room-of .ensures)
+laid-out c = c .before .before
 
 region-walk-requires : tie.Need-region-walk-requires
 region-walk-requires c κs =
@@ -62,7 +52,7 @@ region-walk-requires c κs =
     record {
       offsets = search needs;
       deep = search needs;
-      sound = start-sound (now (a .rules)) (a .limit) (now (a .spans)) (good passed) (omega arith) (laid-out lent .columns-of .ensures) (bounds-are lent);
+      sound = start-sound (now (a .rules)) (a .limit) (now (a .spans)) (good passed) (omega arith) (laid-out lent .columns-of .ensures) (lent .bounds-of .ensures);
     }
 
 returns-3 : tie.Need-returns-3
@@ -75,7 +65,7 @@ returns-3 c =
     with-fit (now (a .rules)) (now (a .region)) (a .limit) (now (a .spans))
     (rw (c .listing-at .ensures)
     (listed-run (now (a .rules)) (now (a .region)) (a .limit) (now (a .spans)) (omega arith) (good passed) (y .last .1 .1 .1 .1 .1 .1 .1 .1 .1 .0, y .result)
-    (rw (lent .bounds-of .ensures, lent .before .room-of .ensures, laid-out lent .columns-of .ensures, start-table (now (a .rules)) (a .limit) (now (a .spans)) (good passed)) at (y .ensures))))
+    (rw (lent .bounds-of .ensures, laid-out lent .columns-of .ensures, start-table (now (a .rules)) (a .limit) (now (a .spans)) (good passed)) at (y .ensures))))
 
 pub list-spec : {M : Type 1} → statement M
 list-spec =
@@ -87,7 +77,6 @@ list-spec =
     (λ c κs. search needs)
     returns-2
     columns-of-requires
-    (λ c κs. search needs)
     (λ c κs. search needs)
     region-walk-requires
     (λ c κs. search needs)

@@ -1,23 +1,23 @@
 -- `read_input` counts no more bytes than the buffer has.
 -- The loop's invariant: the bytes counted are within the buffer, whose length stays; what is free falls. Assumes nothing.
-use mathlib.Core.Path.{_≡_, subst}
+use mathlib.Core.Path.{_≡_}
 use mathlib.Core.List.{List}
 use Prim.Native.Nat.{ℕ, _+_, _-_, _≤_}
 use native.Mathlib.Omega.{arith}
 use lib.ListN.{length, take, drop, length-take, length-drop}
-use Rattle.dump.specs.declared.Input.{Input}
-use Rattle.dump.specs.declared.Input.the-variants.{Bytes}
-use Rattle.dump.specs.Input.{Within}
+use Rattle.input.specs.declared.Input.{Input}
+use Rattle.input.specs.declared.Input.the-variants.{Bytes}
+use Rattle.input.specs.Input.{Within}
+use Rattle.input.proofs.Counted.{counted-within}
 use borrow.Author.Needs.{needs}
-use Rattle.dump.proofs.read_input.Statement.{statement}
-use Rattle.dump.proofs.read_input.Tie as tie
+use Rattle.input.proofs.read_input.Statement.{statement}
+use Rattle.input.proofs.read_input.Tie as tie
 
 -- what comes is within what is free
 free : (buffer : List ℕ) (count more : ℕ) (r : Input) → count ≤ length buffer → r ≡ Bytes more
     → Within (length (take (length buffer - count) (drop count buffer))) r → count + more ≤ length buffer
 free buffer count more r h e w =
-    let m : more ≤ length (take (length buffer - count) (drop count buffer)) = subst (Within (length (take (length buffer - count) (drop count buffer)))) e w in
-    omega (arith, length-take (length buffer - count) (drop count buffer), length-drop count buffer)
+    omega (arith, counted-within e w, length-take (length buffer - count) (drop count buffer), length-drop count buffer)
 
 abbrev Inv-loop : tie.InvT-loop
 Inv-loop buffer₀ count₀ buffer count = (count ≤ length buffer) × (length buffer ≡ length buffer₀)
