@@ -10,6 +10,7 @@
 #define PAINT 0xa5
 #define NESTED 6
 #define TOO_MUCH_FOR_FLAT 600
+#define CRASH_LOG_AT 200 /* in a CPER with one section */
 
 static uint8_t bytes[CRASHLOG_MOST_BYTES + 1], out[CRASHLOG_MOST_BYTES];
 static uint32_t rules[CRASHLOG_RULE_WORDS * CRASHLOG_MOST_RULES];
@@ -17,9 +18,10 @@ static uint32_t spans[NESTED * CRASHLOG_SPAN_WORDS], table[8 * CRASHLOG_SECTION_
 static uint32_t arrived[CRASHLOG_RECEIVER_SPAN_WORDS];
 static crashlog_header header;
 static crashlog_receiver receiver;
+static const uint8_t record_id[] = CRASHLOG_RECORD_ID;
 
 /* What the next call is made on, what it tells, and the most that a call has used. */
-static uint64_t from, length, rules_len, room, limit, count;
+static uint64_t from, region_at, length, rules_len, room, limit, count;
 static uint32_t number;
 static crashlog_listing listed;
 static crashlog_judged judged;
@@ -29,6 +31,7 @@ static size_t most;
 static void nothing(void) {}
 static void list(void) { crashlog_list(bytes, length, rules, rules_len, limit, spans, room, &listed); }
 static void list_flat(void) { crashlog_list_flat(bytes, length, rules, rules_len, limit, spans, room, &listed); }
+static void list_cper(void) { crashlog_list_cper(bytes, length, record_id, rules, rules_len, limit, spans, room, &listed); }
 static void start(void) { crashlog_receiver_start(&receiver, rules, rules_len); }
 static void feed(void) { crashlog_receiver_feed(&receiver, bytes + from, length, arrived, room, &count); }
 static void finish(void) { crashlog_receiver_finish(&receiver, arrived, room, &listed); }
@@ -98,13 +101,35 @@ static void put_record(size_t at, uint32_t type, size_t size)
     put16(at + 26, 9);
 }
 
-/* Boxes in Boxes, each with the next one after its header. */
+static void put_bytes(size_t at, const uint8_t *from, size_t size)
+{
+    for (size_t i = 0; i < size; i++)
+        bytes[at + i] = from[i];
+}
+
+/* A CPER with one section, a Crash Log, that ends with the input. */
+static void put_crash_log(void)
+{
+    static const uint8_t firmware_error[] = {0x96, 0x2a, 0x21, 0x81, 0xed, 0x09, 0x96, 0x49,
+                                             0x94, 0x71, 0x8d, 0x72, 0x9c, 0x8e, 0x69, 0xed};
+    put_bytes(0, (const uint8_t *)"CPER", 4);
+    put32(6, 0xffffffff);
+    put16(10, 1);
+    put32(128, CRASH_LOG_AT);
+    put32(132, length - CRASH_LOG_AT);
+    put_bytes(144, firmware_error, sizeof firmware_error);
+    put_bytes(CRASH_LOG_AT + 16, record_id, sizeof record_id);
+}
+
+/* Boxes in Boxes, each with the next one after its header; in a CPER where the region does not start with the input. */
 static void try_nest(void (*call)(void), uint32_t type, uint32_t flags, size_t header_size)
 {
     for (size_t i = 0; i < NESTED; i++)
-        put_record(i * header_size, type, (NESTED - i) * header_size);
+        put_record(region_at + i * header_size, type, (NESTED - i) * header_size);
     set_flags(flags);
-    length = NESTED * header_size;
+    length = region_at + NESTED * header_size;
+    if (region_at > 0)
+        put_crash_log();
     for (limit = 0; limit < NESTED; limit++)
         for (room = 0; room <= sizeof spans / sizeof spans[0]; room += CRASHLOG_SPAN_WORDS)
             try(call);
@@ -193,7 +218,7 @@ static void put_cper(void)
 {
     static const size_t bodies[4] = {0, 5, 40, 20000};
     size_t at = 128 + 72 * 4;
-    bytes[0] = 'C', bytes[1] = 'P', bytes[2] = 'E', bytes[3] = 'R';
+    put_bytes(0, (const uint8_t *)"CPER", 4);
     put32(6, 0xffffffff);
     put16(10, 4);
     put32(16, 7);
@@ -224,6 +249,9 @@ int main(void)
     tell("list");
     try_lists(list_flat);
     unsigned flat = tell("list_flat");
+    region_at = CRASH_LOG_AT + 32;
+    try_lists(list_cper);
+    tell("list_cper");
     try_receivers();
     try_headers(decode);
     tell("decode");

@@ -1,7 +1,8 @@
 /*
  * Tries the C interface: round trips of headers, the refusals, what is told with each answer, the endings, why a region stops,
- * when a listing is whole, its limits and rooms, socket and die in its rows, each listing by both walks, the receiver, CPERs,
- * names and Intel's rules. Prints nothing and ends with status 0 when all is as include/crashlog.h says.
+ * when a listing is whole, its limits and rooms, socket and die in its rows, each listing by both walks, the receiver, CPERs
+ * and the regions in them, names and Intel's rules. Prints nothing and ends with status 0 when all is as include/crashlog.h
+ * says.
  */
 #include <stdio.h>
 #include <stdlib.h>
@@ -1022,6 +1023,309 @@ static void cpers(void)
     EXPECT(all(out + 205, sizeof out - 205, 0xaa));
 }
 
+/* A CPER that is made section by section. */
+static uint8_t file[CRASHLOG_MOST_BYTES + 1];
+static uint64_t file_len;
+
+static const uint8_t crash_log[16] = CRASHLOG_RECORD_ID;
+static const uint8_t firmware_error[16] = {0x96, 0x2a, 0x21, 0x81, 0xed, 0x09, 0x96, 0x49,
+                                           0x94, 0x71, 0x8d, 0x72, 0x9c, 0x8e, 0x69, 0xed};
+
+static void put_number(uint8_t *to, uint64_t number, int bytes)
+{
+    for (int byte = 0; byte < bytes; byte++)
+        to[byte] = (uint8_t)(number >> 8 * byte);
+}
+
+static uint8_t *descriptor(uint64_t index)
+{
+    return file + 128 + 72 * index;
+}
+
+static void put_descriptor(uint64_t index, uint64_t offset, uint64_t length)
+{
+    put_number(descriptor(index), offset, 4);
+    put_number(descriptor(index) + 4, length, 4);
+    memcpy(descriptor(index) + 16, firmware_error, sizeof firmware_error);
+}
+
+/* A CPER with that many descriptors, whose bodies are empty. */
+static void new_cper(uint64_t sections)
+{
+    memset(file, 0, file_len);
+    memcpy(file, "CPER\0\0\xff\xff\xff\xff", 10);
+    put_number(file + 10, sections, 2);
+    file_len = (uint64_t)(descriptor(sections) - file);
+}
+
+/* Puts a Crash Log's section at the end. Gives where its region starts. */
+static uint64_t add_section(uint64_t index, const void *region, uint64_t length)
+{
+    const uint64_t offset = file_len;
+
+    put_descriptor(index, offset, 32 + length);
+    memset(file + offset, 0, 32);
+    memcpy(file + offset + 16, crash_log, sizeof crash_log);
+    memcpy(file + offset + 32, region, length);
+    file_len += 32 + length;
+    return offset + 32;
+}
+
+/* The table that it is listed in, with a row more than is lent. */
+static uint32_t joined[10001 * CRASHLOG_SPAN_WORDS];
+
+static uint32_t list_cper(const uint8_t *record_id, const uint32_t *rules, uint64_t rules_len, uint64_t limit,
+                          uint64_t spans_len)
+{
+    const size_t row_bytes = CRASHLOG_SPAN_WORDS * sizeof joined[0], all_bytes = spans_len * sizeof joined[0] + row_bytes;
+
+    EXPECT(all_bytes <= sizeof joined);
+    memset(joined, 0xaa, all_bytes);
+    forget();
+    uint32_t *spans = spans_len > 0 ? joined : NULL;
+    uint32_t answer = crashlog_list_cper(file, file_len, record_id, rules, rules_len, limit, spans, spans_len, &listed);
+    EXPECT(listed.bad_type == 0 && listed.stop == CRASHLOG_STOP_UNTOLD && (listed.whole == 0 || answer == CRASHLOG_DONE));
+    EXPECT(listed.rows * CRASHLOG_SPAN_WORDS <= spans_len);
+    EXPECT(all((const uint8_t *)joined + listed.rows * row_bytes, all_bytes - listed.rows * row_bytes, 0xaa));
+    return answer;
+}
+
+/* The Crash Logs in it, with room for ten rows, under no rules and any limit. */
+static uint32_t list_crash_logs(void)
+{
+    return list_cper(crash_log, NULL, 0, UINT64_MAX, 10 * CRASHLOG_SPAN_WORDS);
+}
+
+static int told_joined(uint64_t rows, uint64_t tries, uint64_t whole)
+{
+    return told_listing(rows, tries, 0, whole, CRASHLOG_STOP_UNTOLD);
+}
+
+/* A row of a record with a type 1 header that holds what it declares. */
+static int is_joined(uint64_t row, uint32_t level, uint32_t parent, uint64_t offset, uint32_t held, uint32_t version)
+{
+    const uint32_t numbers[] = {level, parent, (uint32_t)offset, held, held, 8, version, 0, CRASHLOG_NO_DIE, 0};
+
+    return row < listed.rows && memcmp(joined + row * CRASHLOG_SPAN_WORDS, numbers, sizeof numbers) == 0;
+}
+
+static const uint8_t punit[] = {0x01, 0x31, 0x12, 0x03, 2, 0, 0, 0};
+static const uint8_t punit_in_box[] = {0x01, 0x31, 0x12, 0x3d, 4, 0, 0, 0, 0x01, 0x31, 0x12, 0x03, 2, 0, 0, 0};
+
+/* Each refusal before the walk, and their order; a CPER without a section, and one without a record. */
+static void cper_refusals(void)
+{
+    static const uint32_t rules[3 * (CRASHLOG_MOST_RULES + 1)];
+
+    new_cper(1);
+    add_section(0, punit, sizeof punit);
+    const uint64_t length = file_len;
+    file[0] = 'c', file_len = sizeof file;
+    EXPECT(list_cper(crash_log, bad_rules, 3, 0, 10) == CRASHLOG_TOO_LONG && told_joined(0, 0, 0));
+    file_len = sizeof file - 1;
+    EXPECT(list_cper(crash_log, bad_rules, 3, 0, 10) == CRASHLOG_BAD_RULES && told_joined(0, 0, 0));
+    EXPECT(list_cper(crash_log, NULL, 0, 0, 10) == CRASHLOG_NOT_CPER && told_joined(0, 0, 0));
+    file[0] = 'C', file_len = length;
+    EXPECT(list_cper(crash_log, rules, 2, 9, 10) == CRASHLOG_BAD_RULES && told_joined(0, 0, 0));
+    EXPECT(list_cper(crash_log, rules, sizeof rules / sizeof rules[0], 9, 10) == CRASHLOG_BAD_RULES);
+    EXPECT(list_cper(crash_log, rules, sizeof rules / sizeof rules[0] - 3, 9, 10) == CRASHLOG_DONE);
+    for (int at = 0; at < 10; at++) {
+        file[at] ^= 1;
+        EXPECT(list_crash_logs() == (at == 4 || at == 5 ? CRASHLOG_DONE : CRASHLOG_NOT_CPER));
+        file[at] ^= 1;
+    }
+    for (file_len = 0; file_len < 128; file_len++)
+        EXPECT(list_crash_logs() == CRASHLOG_NOT_CPER && told_joined(0, 0, 0));
+    EXPECT(list_cper(crash_log, NULL, 0, 0, 0) == CRASHLOG_EMPTY_REGION && told_joined(0, 0, 0));
+    for (; file_len < length; file_len++) /* the section is not kept */
+        EXPECT(list_crash_logs() == CRASHLOG_EMPTY_REGION && told_joined(0, 0, 0));
+    EXPECT(list_crash_logs() == CRASHLOG_DONE && told_joined(1, 1, 1));
+    EXPECT(list_cper(crash_log, NULL, 0, 0, 10) == CRASHLOG_TRIES_SPENT && told_joined(0, 0, 0));
+    EXPECT(list_cper(crash_log, NULL, 0, 9, 0) == CRASHLOG_SPANS_FULL && told_joined(0, 1, 0));
+    file_len = CRASHLOG_MOST_BYTES;
+    EXPECT(list_crash_logs() == CRASHLOG_DONE && told_joined(1, 1, 1));
+}
+
+/* A Box with a record in it, a region that is empty but for a zero word, and a Box and a record, under each limit and in each
+ * room: so at each end of a section, one before it and one after. */
+static void cper_cuts(void)
+{
+    static const int finds[] = {1, 1, 0, 1, 1, 1}; /* whether each try finds a record */
+    const uint32_t top = CRASHLOG_NO_PARENT, box = 0x3d123101, other = 0x03123101;
+    uint8_t last[sizeof punit_in_box + sizeof punit];
+
+    new_cper(3);
+    memcpy(last, punit_in_box, sizeof punit_in_box);
+    memcpy(last + sizeof punit_in_box, punit, sizeof punit);
+    const uint64_t first = add_section(0, punit_in_box, sizeof punit_in_box);
+    add_section(1, "\0\0\0", 4);
+    const uint64_t third = add_section(2, last, sizeof last);
+
+    for (uint64_t limit = 0; limit <= 7; limit++)
+        for (uint64_t room = 0; room <= 6; room++) {
+            uint64_t rows = 0, tries = 0;
+            uint32_t answer = CRASHLOG_DONE;
+            for (size_t i = 0; i < sizeof finds / sizeof finds[0] && answer == CRASHLOG_DONE; i++) {
+                if (tries == limit)
+                    answer = CRASHLOG_TRIES_SPENT;
+                else if (tries++, finds[i] && rows == room)
+                    answer = CRASHLOG_SPANS_FULL;
+                else
+                    rows += (uint64_t)finds[i];
+            }
+            EXPECT(list_cper(crash_log, NULL, 0, limit, room * CRASHLOG_SPAN_WORDS + (limit + room) % 10) == answer);
+            EXPECT(told_joined(rows, tries, answer == CRASHLOG_DONE));
+            EXPECT(rows < 1 || is_joined(0, 0, top, first, 16, box));
+            EXPECT(rows < 2 || is_joined(1, 1, 0, first + 8, 8, other));
+            EXPECT(rows < 3 || is_joined(2, 0, top, third, 16, box));
+            EXPECT(rows < 4 || is_joined(3, 1, 2, third + 8, 8, other));
+            EXPECT(rows < 5 || is_joined(4, 0, top, third + 16, 8, other));
+        }
+}
+
+/* Which sections are opened: those of at least 32 bytes, of the type, with all sixteen bytes of the identifier that is asked
+ * for, and of any revision. What follows a body that is too short looks like the rest of it. */
+static void cper_opened(void)
+{
+    const uint8_t other[16] = {1};
+
+    for (uint64_t length = 0; length <= 32 + sizeof punit; length++) {
+        new_cper(1);
+        add_section(0, punit, sizeof punit);
+        put_number(descriptor(0) + 4, length, 4);
+        const uint32_t answer = length < 32 + sizeof punit ? CRASHLOG_EMPTY_REGION : CRASHLOG_DONE;
+        EXPECT(list_crash_logs() == answer && told_joined(answer == CRASHLOG_DONE, length > 32, answer == CRASHLOG_DONE));
+    }
+    for (int at = 0; at < 16; at++) {
+        uint8_t *body = file + file_len - 32 - sizeof punit;
+        descriptor(0)[16 + at] ^= 0x80;
+        EXPECT(list_crash_logs() == CRASHLOG_EMPTY_REGION && told_joined(0, 0, 0));
+        descriptor(0)[16 + at] ^= 0x80;
+        body[16 + at] ^= 1;
+        EXPECT(list_crash_logs() == CRASHLOG_EMPTY_REGION && told_joined(0, 0, 0));
+        EXPECT(list_cper(body + 16, NULL, 0, 9, 10) == CRASHLOG_DONE && told_joined(1, 1, 1));
+        body[16 + at] ^= 1;
+        body[at] = 0xff; /* no byte before the identifier is looked at */
+        EXPECT(list_crash_logs() == CRASHLOG_DONE && told_joined(1, 1, 1));
+    }
+    EXPECT(list_cper(other, NULL, 0, 9, 10) == CRASHLOG_EMPTY_REGION && told_joined(0, 0, 0));
+}
+
+/* Regions without a record: before, after and between others, and alone. They give no answer of their own. */
+static void cper_skipped(const struct tail *tail)
+{
+    const uint64_t tries = tail->length > 0;
+
+    new_cper(1);
+    add_section(0, tail->bytes, tail->length);
+    EXPECT(list_crash_logs() == CRASHLOG_EMPTY_REGION && told_joined(0, tries, 0));
+    for (uint64_t at = 0; at < 3; at++) {
+        uint64_t offsets[3];
+        new_cper(3);
+        for (uint64_t index = 0; index < 3; index++)
+            offsets[index] = index == at ? add_section(index, tail->bytes, tail->length)
+                                         : add_section(index, punit, sizeof punit);
+        EXPECT(list_crash_logs() == CRASHLOG_DONE && told_joined(2, 2 + tries, tail->whole));
+        EXPECT(is_joined(0, 0, CRASHLOG_NO_PARENT, offsets[at == 0 ? 1 : 0], 8, 0x03123101));
+        EXPECT(is_joined(1, 0, CRASHLOG_NO_PARENT, offsets[at == 2 ? 1 : 2], 8, 0x03123101));
+    }
+}
+
+/* What spoils `whole` in one region spoils it in all, before and after others. */
+static void cper_wholes(const struct content *content)
+{
+    for (uint64_t at = 0; at < 3; at++) {
+        new_cper(3);
+        for (uint64_t index = 0; index < 3; index++)
+            if (index == at)
+                add_section(index, content->bytes, content->length);
+            else
+                add_section(index, punit, sizeof punit);
+        EXPECT(list_crash_logs() == CRASHLOG_DONE && told_joined(2 + content->rows, 2 + content->rows, content->spoils == 0));
+    }
+}
+
+/* Bodies over each other, one of them in another's region, and one that ends before; in the order of their descriptors. */
+static void cper_overlaps(void)
+{
+    const uint32_t top = CRASHLOG_NO_PARENT, box = 0x3d123101, other = 0x03123101;
+    const uint32_t *span = joined + CRASHLOG_SPAN_WORDS; /* of the Box, cut short */
+    uint8_t region[sizeof punit_in_box + 32 + sizeof punit];
+
+    new_cper(4);
+    const uint64_t inner = file_len + 32 + sizeof punit_in_box;
+    memcpy(region, punit_in_box, sizeof punit_in_box);
+    memset(region + sizeof punit_in_box, 0, 32);
+    memcpy(region + sizeof punit_in_box + 16, crash_log, sizeof crash_log);
+    memcpy(region + sizeof punit_in_box + 32, punit, sizeof punit);
+    const uint64_t outer = add_section(3, region, sizeof region);
+    put_descriptor(0, inner, 32 + sizeof punit);
+    put_descriptor(1, outer - 32, 32 + 8);
+    put_descriptor(2, inner, 32 + sizeof punit);
+    EXPECT(list_crash_logs() == CRASHLOG_DONE && told_joined(5, 6, 0));
+    EXPECT(is_joined(0, 0, top, inner + 32, 8, other));
+    EXPECT(span[CRASHLOG_SPAN_OFFSET] == outer && span[CRASHLOG_SPAN_HELD] == 8 && span[CRASHLOG_SPAN_DECLARED] == 16);
+    EXPECT(is_joined(2, 0, top, inner + 32, 8, other));
+    EXPECT(is_joined(3, 0, top, outer, 16, box) && is_joined(4, 1, 3, outer + 8, 8, other));
+}
+
+/* The rules hold in every region: by one the first record of each counts its size in bytes, by the other it is a Box. */
+static void cper_rules(void)
+{
+    static const uint32_t rules[] = {0x3f000000, 0x05000000, CRASHLOG_SIZES_IN_BYTES,
+                                     0x3f000000, 0x05000000, CRASHLOG_LEGACY_SERVER_BOX};
+    static const uint8_t region[] = {0x01, 0x31, 0x12, 0x05, 16, 0, 0, 0, 0x01, 0x31, 0x12, 0x03, 2, 0, 0, 0};
+    uint64_t offsets[2];
+
+    new_cper(2);
+    for (uint64_t index = 0; index < 2; index++)
+        offsets[index] = add_section(index, region, sizeof region);
+    EXPECT(list_cper(crash_log, rules, 6, 4, 4 * CRASHLOG_SPAN_WORDS) == CRASHLOG_DONE && told_joined(4, 4, 1));
+    for (uint32_t index = 0; index < 2; index++) {
+        const uint32_t *span = joined + 2 * index * CRASHLOG_SPAN_WORDS;
+        EXPECT(span[CRASHLOG_SPAN_FLAGS] == (CRASHLOG_SIZES_IN_BYTES | CRASHLOG_LEGACY_SERVER_BOX));
+        EXPECT(span[CRASHLOG_SPAN_DECLARED] == 16 && span[CRASHLOG_SPAN_OFFSET] == offsets[index]);
+        EXPECT(is_joined(2 * index + 1, 1, 2 * index, offsets[index] + 8, 8, 0x03123101));
+    }
+}
+
+/* Ten thousand sections over one body, of a record and a zero word. No limit is cut to 32 bits. */
+static void cper_many(void)
+{
+    const uint64_t sections = 10000, two_to_32 = 1ull << 32, words = sections * CRASHLOG_SPAN_WORDS;
+    uint8_t region[sizeof punit + 4] = {0};
+
+    new_cper(sections);
+    memcpy(region, punit, sizeof punit);
+    const uint64_t offset = add_section(0, region, sizeof region);
+    for (uint64_t index = 1; index < sections; index++)
+        put_descriptor(index, offset - 32, 32 + sizeof region);
+    EXPECT(list_cper(crash_log, NULL, 0, two_to_32, words) == CRASHLOG_DONE && told_joined(sections, 2 * sections, 1));
+    for (uint64_t row = 0; row < sections; row++)
+        EXPECT(is_joined(row, 0, CRASHLOG_NO_PARENT, offset, 8, 0x03123101));
+    EXPECT(list_cper(crash_log, NULL, 0, two_to_32 + 3, words) == CRASHLOG_DONE && told_joined(sections, 2 * sections, 1));
+    EXPECT(list_cper(crash_log, NULL, 0, UINT64_MAX, words) == CRASHLOG_DONE && told_joined(sections, 2 * sections, 1));
+    EXPECT(list_cper(crash_log, NULL, 0, 2 * sections, words) == CRASHLOG_DONE && told_joined(sections, 2 * sections, 1));
+    EXPECT(list_cper(crash_log, NULL, 0, 2 * sections - 1, words) == CRASHLOG_TRIES_SPENT);
+    EXPECT(told_joined(sections, 2 * sections - 1, 0));
+    EXPECT(list_cper(crash_log, NULL, 0, UINT64_MAX, words - 1) == CRASHLOG_SPANS_FULL);
+    EXPECT(told_joined(sections - 1, 2 * sections - 1, 0));
+}
+
+static void cper_regions(void)
+{
+    cper_refusals();
+    cper_cuts();
+    cper_opened();
+    for (size_t i = 0; i < sizeof tails / sizeof tails[0]; i++)
+        cper_skipped(&tails[i]);
+    for (size_t i = 0; i < sizeof contents / sizeof contents[0]; i++)
+        cper_wholes(&contents[i]);
+    cper_overlaps();
+    cper_rules();
+    cper_many();
+}
+
 static void names(void)
 {
     uint8_t out[16];
@@ -1112,6 +1416,7 @@ int main(void)
     origins();
     receivers();
     cpers();
+    cper_regions();
     names();
     intel_rules();
     intel_errata();

@@ -37,6 +37,7 @@ int main(int argc, char **argv)
     print_heading();
     print_rows(spans, told.rows);
     print_told(answer, told.rows, &told);
+    print_stop(&told);
     free(spans);
     return 0;
 }

@@ -145,6 +145,7 @@ static uint32_t receive(int line, long seconds)
         all += told.rows;
     }
     print_told(answer, all, &told);
+    print_stop(&told);
     printf("answer: %s\n", words_of_answer(answer));
     printf("end: %s\n", end != NULL ? end : "no more is taken");
     return answer;

@@ -1,4 +1,4 @@
-/* How the example programs print the rows of a listing, and why it stopped. */
+/* How the example programs print the rows of a listing, what else it tells, and why its region stopped. */
 #ifndef ROWS_H
 #define ROWS_H
 
@@ -40,7 +40,7 @@ static void print_rows(const uint32_t *spans, uint64_t rows)
         print_row(spans + row * CRASHLOG_SPAN_WORDS);
 }
 
-static const char *words_of(uint64_t stop)
+static inline const char *words_of(uint64_t stop)
 {
     switch (stop) {
     case CRASHLOG_STOP_UNTOLD: return "untold";
@@ -54,11 +54,16 @@ static const char *words_of(uint64_t stop)
     }
 }
 
-/* The last lines of a listing with so many rows in all. */
+/* The last line of a listing with so many rows in all. */
 static void print_told(uint32_t answer, uint64_t rows, const crashlog_listing *told)
 {
     printf("rows %" PRIu64 " tries %" PRIu64 " whole %s answer %" PRIu32 "\n",
            rows, told->tries, told->whole ? "yes" : "no", answer);
+}
+
+/* Why its region stopped, where a program has but one. */
+static inline void print_stop(const crashlog_listing *told)
+{
     printf("stop: %s\n", words_of(told->stop));
 }
 

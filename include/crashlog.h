@@ -1,12 +1,13 @@
 /*
  * crashlog.h: read Intel Crash Logs.
  *
- * Twelve functions. crashlog_list walks a region and lists its records, with the records that lie inside Box records;
- * crashlog_list_flat does the same with a small stack. crashlog_receiver_start, crashlog_receiver_feed and
- * crashlog_receiver_finish list a region while it comes in, piece by piece, without the records inside. crashlog_decode
- * reads one record header, crashlog_encode writes one. crashlog_sections, crashlog_section and crashlog_normalise read a
- * CPER (UEFI's Common Platform Error Record) and write its normal form. crashlog_name names a record type.
- * crashlog_intel_rules writes Intel's errata as a rule table. Link with libcrashlog.a, which is for x86-64 Linux.
+ * Thirteen functions. crashlog_list walks a region and lists its records, with the records that lie inside Box records;
+ * crashlog_list_flat does the same with a small stack, and crashlog_list_cper for all regions that lie in a CPER (UEFI's
+ * Common Platform Error Record). crashlog_receiver_start, crashlog_receiver_feed and crashlog_receiver_finish list a region
+ * while it comes in, piece by piece, without the records inside. crashlog_decode reads one record header, crashlog_encode
+ * writes one. crashlog_sections, crashlog_section and crashlog_normalise read a CPER and write its normal form. crashlog_name
+ * names a record type. crashlog_intel_rules writes Intel's errata as a rule table. Link with libcrashlog.a, which is for
+ * x86-64 Linux.
  *
  * What holds of every function
  *
@@ -51,6 +52,17 @@
  *         }
  *         if (answer != CRASHLOG_DONE)
  *             printf("answer %" PRIu32 "\n", answer);
+ *     }
+ *
+ * All Crash Logs in a CPER, with at most a million headers tried
+ *
+ *     void count_records(const uint8_t *cper, uint64_t length)
+ *     {
+ *         static const uint8_t record_id[] = CRASHLOG_RECORD_ID;
+ *         crashlog_listing told;
+ *         uint32_t answer = crashlog_list_cper(cper, length, record_id, NULL, 0, 1000000,
+ *                                              spans, sizeof spans / sizeof spans[0], &told);
+ *         printf("%" PRIu64 " records, answer %" PRIu32 "\n", told.rows, answer);
  *     }
  *
  * And while the region comes in, from a line that gives up to 64 bytes at a time and a negative number at its end
@@ -127,6 +139,10 @@ extern "C" {
 /* Tries that are enough for any region of n bytes, under any rules. No listing has more rows than tries. */
 #define CRASHLOG_MOST_TRIES(n) ((uint64_t)5 * (uint64_t)(n))
 
+/* The record identifier of a Crash Log in a CPER, 8f87f311-c998-4d9e-a0c4-6065518c4f6d: an initialiser of sixteen bytes. */
+#define CRASHLOG_RECORD_ID \
+    {0x11, 0xf3, 0x87, 0x8f, 0x98, 0xc9, 0x9e, 0x4d, 0xa0, 0xc4, 0x60, 0x65, 0x51, 0x8c, 0x4f, 0x6d}
+
 /*
  * The rule table: rows of three numbers, mask, wanted, flags. A row applies to a record when (version word & mask) == wanted;
  * the record's flags are the union over the rows that apply. The flag number is a sum of these.
@@ -147,7 +163,7 @@ extern "C" {
 #define CRASHLOG_SPAN_WORDS 10
 #define CRASHLOG_SPAN_LEVEL 0       /* 0 at the top, 1 in a Box, .. 4 */
 #define CRASHLOG_SPAN_PARENT 1      /* the row of the Box that it lies in; CRASHLOG_NO_PARENT at the top */
-#define CRASHLOG_SPAN_OFFSET 2      /* where it starts, in the whole region */
+#define CRASHLOG_SPAN_OFFSET 2      /* where it starts, in the whole region or CPER */
 #define CRASHLOG_SPAN_HELD 3        /* how many of its bytes are there */
 #define CRASHLOG_SPAN_DECLARED 4    /* how many it says it has */
 #define CRASHLOG_SPAN_HEADER_SIZE 5 /* of its header */
@@ -169,15 +185,15 @@ extern "C" {
 
 /*
  * What a listing tells. It is whole when the answer is CRASHLOG_DONE, every row holds what it declares, every Box on levels 0
- * to 3 holds all of its header, and the region and those in such Boxes stopped at their end or at a zero or 0xdeadbeef
- * word.
+ * to 3 holds all of its header, and the region, or each that is walked in a CPER, and those in such Boxes stopped at their end
+ * or at a zero or 0xdeadbeef word.
  */
 typedef struct {
     uint64_t rows;     /* rows written, from the table's start */
     uint64_t tries;    /* headers tried */
     uint64_t bad_type; /* with CRASHLOG_BAD_TYPE, else 0 */
     uint64_t whole;    /* 1 when the listing is whole, else 0 */
-    uint64_t stop;     /* why the region stopped; why a Box in it did is not told */
+    uint64_t stop;     /* why the region stopped; why a Box in it did is not told, nor why a region in a CPER did */
 } crashlog_listing;
 
 /*
@@ -265,6 +281,26 @@ uint32_t crashlog_list(const uint8_t *region, uint64_t region_len, const uint32_
  */
 uint32_t crashlog_list_flat(const uint8_t *region, uint64_t region_len, const uint32_t *rules, uint64_t rules_len,
                             uint64_t limit, uint32_t *spans, uint64_t spans_len, crashlog_listing *told);
+
+/*
+ * Lists the records of all regions that lie in a CPER, one region after the other. A region is what follows the first 32 bytes
+ * of a section of crashlog_sections that has at least these, whose type is UEFI's Firmware Error Record (N.2.10,
+ * 81212a96-09ed-4996-9471-8d729c8e69ed) and whose bytes 16 to 31 are the sixteen of `record_id`; CRASHLOG_RECORD_ID has those
+ * of a Crash Log. All other sections are left out. A region is walked as crashlog_list walks one, from level 0 on; offsets are
+ * in the whole CPER, and a row's parent is a row of this table. A region without a record adds no row, whatever stands in it:
+ * only its tries count, and for `whole` how it stopped. At most `limit` headers are tried in all. Room for more than
+ * 4,294,967,294 rows counts as that.
+ *
+ * Sections may lie over each other, and each is walked once. A CPER can have 14,561 of them, so that far more headers may be
+ * due than CRASHLOG_MOST_TRIES(cper_len), though never more than 76,341,575,680: it is `limit` that bounds the time of a call.
+ *
+ * Answers, in this order: TOO_LONG; BAD_RULES; NOT_CPER; SPANS_FULL or TRIES_SPENT, whichever the walk comes upon first;
+ * EMPTY_REGION, where no region has a record; DONE. With DONE, SPANS_FULL and TRIES_SPENT told->rows rows are written; with
+ * any other answer it is 0 and the table is as it was. told->tries is told with every answer. told->bad_type and told->stop
+ * are always 0.
+ */
+uint32_t crashlog_list_cper(const uint8_t *cper, uint64_t cper_len, const uint8_t *record_id, const uint32_t *rules,
+                            uint64_t rules_len, uint64_t limit, uint32_t *spans, uint64_t spans_len, crashlog_listing *told);
 
 /*
  * Starts a receiver, whatever it held, under a copy of the rules: no byte of its region has come.

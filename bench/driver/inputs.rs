@@ -1,4 +1,5 @@
 //! The inputs: regions, CPERs, headers and rule tables. The same bytes in every run.
+use std::ops::Range;
 
 pub const MIB: usize = 1 << 20;
 
@@ -222,6 +223,32 @@ pub fn cper(sections: usize, len: usize) -> Vec<u8> {
         put32(&mut bytes, at + 48, i as u32 % 4);
     }
     bytes
+}
+
+/// The record identifier of a Crash Log.
+pub const CRASH_LOG: [u8; 16] =
+    [0x11, 0xf3, 0x87, 0x8f, 0x98, 0xc9, 0x9e, 0x4d, 0xa0, 0xc4, 0x60, 0x65, 0x51, 0x8c, 0x4f, 0x6d];
+
+/// The bytes of a section before its region.
+const SECTION_HEADER: usize = 32;
+
+/// A CPER whose sections are Crash Logs with such regions, and where each region lies.
+pub fn cper_of_regions(sections: usize, len: usize, make: fn(usize) -> Vec<u8>) -> (Vec<u8>, Vec<Range<usize>>) {
+    const FIRMWARE_ERROR: [u8; 16] =
+        [0x96, 0x2a, 0x21, 0x81, 0xed, 0x09, 0x96, 0x49, 0x94, 0x71, 0x8d, 0x72, 0x9c, 0x8e, 0x69, 0xed];
+    let mut bytes = cper(sections, len);
+    let body = body_size(sections, len);
+    let region = make(body - SECTION_HEADER);
+    let mut regions = Vec::new();
+    for i in 0..sections {
+        let (descriptor, end) = (128 + 72 * i, 128 + 72 * sections + body * (i + 1));
+        let start = end - region.len();
+        bytes[descriptor + 16..][..16].copy_from_slice(&FIRMWARE_ERROR);
+        bytes[start - CRASH_LOG.len()..start].copy_from_slice(&CRASH_LOG);
+        bytes[start..end].copy_from_slice(&region);
+        regions.push(start..end);
+    }
+    (bytes, regions)
 }
 
 /// The kinds of headers: a name, a header type, a product, status words.

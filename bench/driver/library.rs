@@ -43,7 +43,10 @@ pub const RECEIVER_SPAN_WORDS: usize = 6000;
 /// What stands where a call tells, before it does.
 const UNTOLD: u64 = u64::MAX;
 
+const UNTOLD_LISTING: Listing = Listing { rows: UNTOLD, tries: UNTOLD, bad_type: UNTOLD, whole: UNTOLD, stop: UNTOLD };
+
 type List = unsafe extern "C" fn(*const u8, u64, *const u32, u64, u64, *mut u32, u64, *mut Listing) -> u32;
+type ListCper = unsafe extern "C" fn(*const u8, u64, *const u8, *const u32, u64, u64, *mut u32, u64, *mut Listing) -> u32;
 type Decode = unsafe extern "C" fn(*const u8, u64, *const u32, u64, *mut Header, *mut Judged) -> u32;
 type Encode = unsafe extern "C" fn(*const Header, *const u32, u64, *mut u8, u64, *mut u64) -> u32;
 type Normalise = unsafe extern "C" fn(*const u8, u64, *mut u8, u64, *mut u64) -> u32;
@@ -52,11 +55,31 @@ type Feed = unsafe extern "C" fn(*mut Receiver, *const u8, u64, *mut u32, u64, *
 type Finish = unsafe extern "C" fn(*mut Receiver, *mut u32, u64, *mut Listing) -> u32;
 
 macro_rules! exports {
-    ($list:ident, $decode:ident, $encode:ident, $normalise:ident, $start:ident, $feed:ident, $finish:ident) => {
+    (
+        $list:ident,
+        $list_cper:ident,
+        $decode:ident,
+        $encode:ident,
+        $normalise:ident,
+        $start:ident,
+        $feed:ident,
+        $finish:ident
+    ) => {
         unsafe extern "C" {
             fn $list(
                 r: *const u8,
                 rn: u64,
+                t: *const u32,
+                tn: u64,
+                limit: u64,
+                s: *mut u32,
+                sn: u64,
+                told: *mut Listing,
+            ) -> u32;
+            fn $list_cper(
+                c: *const u8,
+                cn: u64,
+                id: *const u8,
                 t: *const u32,
                 tn: u64,
                 limit: u64,
@@ -76,6 +99,7 @@ macro_rules! exports {
 
 exports!(
     crashlog_list,
+    crashlog_list_cper,
     crashlog_decode,
     crashlog_encode,
     crashlog_normalise,
@@ -85,6 +109,7 @@ exports!(
 );
 exports!(
     plain_list,
+    plain_list_cper,
     plain_decode,
     plain_encode,
     plain_normalise,
@@ -119,6 +144,7 @@ pub fn intel_rules() -> Vec<u32> {
 #[derive(Clone, Copy)]
 pub struct Library {
     list: List,
+    list_cper: ListCper,
     decode: Decode,
     encode: Encode,
     normalise: Normalise,
@@ -129,6 +155,7 @@ pub struct Library {
 
 pub const PROVED: Library = Library {
     list: crashlog_list,
+    list_cper: crashlog_list_cper,
     decode: crashlog_decode,
     encode: crashlog_encode,
     normalise: crashlog_normalise,
@@ -142,6 +169,7 @@ pub const FLAT: Library = Library { list: crashlog_list_flat, ..PROVED };
 
 pub const PLAIN: Library = Library {
     list: plain_list,
+    list_cper: plain_list_cper,
     decode: plain_decode,
     encode: plain_encode,
     normalise: plain_normalise,
@@ -162,9 +190,22 @@ fn lent_mut<T>(slice: &mut [T]) -> (*mut T, u64) {
 /// Each gives the answer and what else is told.
 impl Library {
     pub fn list(&self, region: &[u8], rules: &[u32], limit: u64, spans: &mut [u32]) -> (u32, Listing) {
-        let mut told = Listing { rows: UNTOLD, tries: UNTOLD, bad_type: UNTOLD, whole: UNTOLD, stop: UNTOLD };
+        let mut told = UNTOLD_LISTING;
         let ((r, rn), (t, tn), (s, sn)) = (lent(region), lent(rules), lent_mut(spans));
         (unsafe { (self.list)(r, rn, t, tn, limit, s, sn, &mut told) }, told)
+    }
+
+    pub fn list_cper(
+        &self,
+        cper: &[u8],
+        record_id: &[u8; 16],
+        rules: &[u32],
+        limit: u64,
+        spans: &mut [u32],
+    ) -> (u32, Listing) {
+        let mut told = UNTOLD_LISTING;
+        let ((c, cn), (t, tn), (s, sn)) = (lent(cper), lent(rules), lent_mut(spans));
+        (unsafe { (self.list_cper)(c, cn, record_id.as_ptr(), t, tn, limit, s, sn, &mut told) }, told)
     }
 
     pub fn start(&self, receiver: &mut Receiver, rules: &[u32]) -> u32 {
@@ -179,7 +220,7 @@ impl Library {
     }
 
     pub fn finish(&self, receiver: &mut Receiver, spans: &mut [u32]) -> (u32, Listing) {
-        let mut told = Listing { rows: UNTOLD, tries: UNTOLD, bad_type: UNTOLD, whole: UNTOLD, stop: UNTOLD };
+        let mut told = UNTOLD_LISTING;
         let (s, sn) = lent_mut(spans);
         (unsafe { (self.finish)(receiver, s, sn, &mut told) }, told)
     }

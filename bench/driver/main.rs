@@ -2,6 +2,7 @@
 //! compared before they are timed. Prints the tables of bench/RESULTS.md. With the name of a folder it writes inputs there for
 //! bench/count instead.
 mod counting;
+mod cper_listing;
 mod growth;
 #[allow(dead_code)]
 #[path = "../../compare/src/header.rs"]
@@ -34,10 +35,11 @@ fn main() {
     }
     let listings = listing::report(&tables);
     let flat_listings = listing::report_flat(&tables);
+    let cper_listings = cper_listing::report(&tables[..2]);
     let receptions = receiving::report(&tables[..2]);
     let normal_forms = normalising::report();
     headers::report_decoding(&tables);
     headers::report_encoding(&tables);
     growth::report(&rules);
-    targets::report(&listings, &flat_listings, &receptions, &normal_forms);
+    targets::report(&listings, &flat_listings, &cper_listings, &receptions, &normal_forms);
 }

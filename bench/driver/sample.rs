@@ -33,6 +33,7 @@ pub const STANDIN: &str = "Rust";
 pub const PUBLISHED: &str = "published Rust";
 pub const LISTING: &str = "a listing";
 pub const NESTED: &str = "the nested walk";
+pub const ONE_BY_ONE: &str = "its regions one by one";
 
 /// A candidate's name, and its work.
 pub type Candidate<'a> = (&'static str, Box<dyn FnMut() + 'a>);

@@ -1,6 +1,6 @@
 //! What is aimed at, and the input on which the library comes out worst.
 use crate::rust;
-use crate::sample::{C, LIBRARY, LISTING, NESTED, STANDIN, Times};
+use crate::sample::{C, LIBRARY, LISTING, NESTED, ONE_BY_ONE, STANDIN, Times};
 use crate::table::{heading, row};
 
 /// The times on one input.
@@ -24,6 +24,9 @@ const MOST_OF_LISTING: f64 = 1.5;
 
 /// At most so many times the time of the nested walk.
 const MOST_OF_NESTED: f64 = 1.15;
+
+/// At most so many times the time of a CPER's regions listed one by one.
+const MOST_OF_ONE_BY_ONE: f64 = 1.2;
 
 /// At least so many times as fast as the Rust with the same rules.
 const LEAST_OF_RUST_LISTING: f64 = 5.0;
@@ -51,10 +54,17 @@ fn against_rust(what: &str, least: f64, measured: &[Measured]) {
     line(format!("{what}: at least {least} times as fast as the Rust"), worst, least <= worst.0);
 }
 
-pub fn report(listings: &[Measured], flat_listings: &[Measured], receptions: &Receptions, normal_forms: &[Measured]) {
+pub fn report(
+    listings: &[Measured],
+    flat_listings: &[Measured],
+    cper_listings: &[Measured],
+    receptions: &Receptions,
+    normal_forms: &[Measured],
+) {
     heading("Targets", &["target", "worst", "on", "met"]);
     at_most("listing", MOST_OF_C, C, listings);
     at_most("flat walk", MOST_OF_NESTED, NESTED, flat_listings);
+    at_most("listing a CPER", MOST_OF_ONE_BY_ONE, ONE_BY_ONE, cper_listings);
     at_most("receiving", MOST_OF_C, C, receptions.short.iter().chain(&receptions.long));
     at_most("receiving records of up to 64 bytes", MOST_OF_LISTING, LISTING, &receptions.short);
     at_most("normalising", MOST_OF_C, C, normal_forms);

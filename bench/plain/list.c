@@ -1,68 +1,5 @@
-/* The walk over a region and its Boxes. */
-#include "frame.h"
-
-#define DEEPEST 4
-
-/* What stops the whole walk, beside the CRASHLOG_STOP numbers, which stop one region. */
-enum { FULL = CRASHLOG_STOP_SIZE_ZERO + 1, SPENT };
-
-/* What the caller lends, and how far the walk has come. */
-struct walk {
-    const uint32_t *rules;
-    size_t rules_len;
-    uint64_t limit;
-    uint64_t tries;
-    uint32_t *spans;
-    uint32_t room;
-    uint32_t rows;
-    bool whole;
-};
-
-/* Gives what stopped it. The flags of the last version word are remembered, as the library does it. */
-static uint32_t walk_region(struct walk *walk, const uint8_t *bytes, size_t len, uint32_t base, uint32_t level,
-                            uint32_t parent)
-{
-    uint32_t last = 0, flags = 0;
-    struct frame frame;
-    for (size_t at = 0; at < len; at += frame.declared) {
-        if (walk->limit <= walk->tries)
-            return SPENT;
-        walk->tries++;
-        const uint8_t *record = bytes + at;
-        size_t left = len - at;
-        uint32_t word = word_of(record, left);
-        if (word == 0)
-            return ending_of(record, left);
-        if (word != last) {
-            last = word;
-            flags = flags_of(walk->rules, walk->rules_len, word);
-        }
-        if (judge(record, left, word, flags, &frame) != CRASHLOG_DONE)
-            return CRASHLOG_STOP_BAD_HEADER;
-        if (frame.declared == 0)
-            return CRASHLOG_STOP_SIZE_ZERO;
-        if (walk->room <= walk->rows)
-            return FULL;
-        uint32_t held = frame.declared < left ? frame.declared : (uint32_t)left;
-        uint32_t offset = base + (uint32_t)at, row = walk->rows++;
-        put_span(walk->spans + (size_t)row * CRASHLOG_SPAN_WORDS, level, parent, offset, held, frame, word, flags);
-        if (held < frame.declared)
-            walk->whole = false;
-        if (is_box(word, flags) && level < DEEPEST) {
-            if (frame.size < held) {
-                uint32_t stop =
-                    walk_region(walk, record + frame.size, held - frame.size, offset + frame.size, level + 1, row);
-                if (stop >= FULL)
-                    return stop;
-                if (!clean(stop))
-                    walk->whole = false;
-            } else if (held < frame.size) {
-                walk->whole = false;
-            }
-        }
-    }
-    return CRASHLOG_STOP_END_OF_INPUT;
-}
+/* The listing of a region. */
+#include "walk.h"
 
 /* What is bad in the first header. */
 static uint32_t first_answer(const uint8_t *region, size_t len, const uint32_t *rules, size_t rules_len)
@@ -80,22 +17,12 @@ uint32_t plain_list(const uint8_t *region, uint64_t region_len, const uint32_t *
         return CRASHLOG_TOO_LONG;
     if (!rules_valid(rules, rules_len))
         return CRASHLOG_BAD_RULES;
-    uint64_t room = spans_len / CRASHLOG_SPAN_WORDS;
-    struct walk walk = {
-        .rules = rules,
-        .rules_len = rules_len,
-        .limit = limit,
-        .spans = spans,
-        .room = room < CRASHLOG_NO_PARENT ? (uint32_t)room : CRASHLOG_NO_PARENT - 1,
-        .whole = true,
-    };
+    struct walk walk = walk_of(rules, rules_len, limit, spans, spans_len);
     uint32_t stop = walk_region(&walk, region, region_len, 0, 0, CRASHLOG_NO_PARENT);
     told->rows = walk.rows;
     told->tries = walk.tries;
-    if (stop == FULL)
-        return CRASHLOG_SPANS_FULL;
-    if (stop == SPENT)
-        return CRASHLOG_TRIES_SPENT;
+    if (stop >= FULL)
+        return answer_of_cut(stop);
     told->stop = stop;
     if (walk.rows > 0) {
         told->whole = walk.whole && clean(stop);

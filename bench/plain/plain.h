@@ -7,6 +7,9 @@
 uint32_t plain_list(const uint8_t *region, uint64_t region_len, const uint32_t *rules, uint64_t rules_len, uint64_t limit,
                     uint32_t *spans, uint64_t spans_len, crashlog_listing *told);
 
+uint32_t plain_list_cper(const uint8_t *cper, uint64_t cper_len, const uint8_t *record_id, const uint32_t *rules,
+                         uint64_t rules_len, uint64_t limit, uint32_t *spans, uint64_t spans_len, crashlog_listing *told);
+
 uint32_t plain_receiver_start(crashlog_receiver *receiver, const uint32_t *rules, uint64_t rules_len);
 
 uint32_t plain_receiver_feed(crashlog_receiver *receiver, const uint8_t *piece, uint64_t piece_len,

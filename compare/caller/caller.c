@@ -7,13 +7,14 @@
  *     0   6 x u64  what the call tells: its answer, then the numbers of its struct in order, then zeros
  *     48  i64      the first byte of the lent buffer, or of the guard space around it, that was changed though it is none of
  *                  those written; no such byte: the lowest number
- *     56  u64      a sum: 1 if the input or the rules were changed; 2 if a number beside the struct was; of a reception, 4 if
- *                  a call that is to be refused was not, or was and changed or told something, and 8 if the rows told are more
- *                  or fewer than the request says
+ *     56  u64      a sum: 1 if the input, the rules or the identifier were changed; 2 if a number beside the struct was; of a
+ *                  reception, 4 if a call that is to be refused was not, or was and changed or told something, and 8 if the
+ *                  rows told are more or fewer than the request says
  *
  * A listing has two such answers, each with what is written after it: of crashlog_list, then of crashlog_list_flat on the same.
  *
- * Input, pieces of it and rules end where memory ends, so that a read past them is a fault. All numbers are little-endian.
+ * Input, pieces of it, rules and identifier end where memory ends, so that a read past them is a fault. All numbers are
+ * little-endian.
  */
 #include <string.h>
 #include <sys/mman.h>
@@ -21,12 +22,12 @@
 
 #include "crashlog.h"
 
-enum { HEADERS, ENCODES, LISTINGS, TEXTS, TABLES, SECTIONS, NORMAL_FORMS, NAMES, INTEL_RULES, RECEPTIONS };
-enum { PAGE = 65536, GUARD = 64, FIXED = 80, FIELD_BYTES = 564, MEGABYTE = 1 << 20, MOST_TOLD = 5 };
+enum { HEADERS, ENCODES, LISTINGS, TEXTS, TABLES, SECTIONS, NORMAL_FORMS, NAMES, INTEL_RULES, RECEPTIONS, CPER_LISTINGS };
+enum { PAGE = 65536, GUARD = 64, FIXED = 80, FIELD_BYTES = 564, ID_BYTES = 16, MEGABYTE = 1 << 20, MOST_TOLD = 5 };
 
 static uint8_t batch[32 * MEGABYTE], answers[96 * MEGABYTE];
 static _Alignas(64) uint8_t area[64 * MEGABYTE];
-static _Alignas(PAGE) uint8_t inputs[2 * MEGABYTE + PAGE], tables[PAGE + PAGE], pieces[PAGE + PAGE];
+static _Alignas(PAGE) uint8_t inputs[2 * MEGABYTE + PAGE], tables[PAGE + PAGE], pieces[PAGE + PAGE], ids[PAGE + PAGE];
 
 typedef uint32_t list_function(const uint8_t *, uint64_t, const uint32_t *, uint64_t, uint64_t, uint32_t *, uint64_t,
                                crashlog_listing *);
@@ -35,7 +36,7 @@ typedef uint32_t list_function(const uint8_t *, uint64_t, const uint32_t *, uint
 struct request {
     uint32_t call, size, rules, room, length, stored, written;
     uint64_t number;
-    const uint8_t *rest;
+    const uint8_t *rule_bytes, *id, *input; /* as the request has them; an identifier where a CPER is listed */
     list_function *list;
 };
 
@@ -75,9 +76,10 @@ static void give(const uint8_t *from, size_t count)
 
 static struct request request_at(const uint8_t *at)
 {
-    const uint8_t *body = at + 8;
+    const uint8_t *body = at + 8, *rules = body + FIXED, *id = rules + 4 * number4(body + 4);
+    const uint8_t *input = number4(at) == CPER_LISTINGS ? id + ID_BYTES : id;
     return (struct request){ number4(at), number4(at + 4), number4(body + 4), number4(body + 16), number4(body + 20),
-                             number4(body + 24), number4(body + 28), number8(body + 8), body + FIXED, crashlog_list };
+                             number4(body + 24), number4(body + 28), number8(body + 8), rules, id, input, crashlog_list };
 }
 
 /* What lent buffers hold before a call, from some place on: these bytes again and again. No two neighbours are equal, and none
@@ -121,6 +123,7 @@ static size_t lent_bytes(const struct request *asked)
     case LISTINGS:
     case TABLES:
     case RECEPTIONS:
+    case CPER_LISTINGS:
     case INTEL_RULES: return 4 * (size_t)asked->room;
     default: return asked->room;
     }
@@ -137,30 +140,31 @@ static size_t written_bytes(const struct request *asked)
     }
 }
 
-/* The input and the rules of a request, each ending where memory ends. */
+/* The input, the rules and the identifier of a request, each ending where memory ends. */
 static uint8_t *input_of(const struct request *asked) { return inputs + 2 * MEGABYTE - asked->length; }
 static uint32_t *rules_of(const struct request *asked) { return (uint32_t *)(tables + PAGE) - asked->rules; }
+static uint8_t *id_of(const struct request *asked) { return ids + PAGE - (asked->input - asked->id); }
 
 static void set_input(const struct request *asked)
 {
-    const uint8_t *stored = asked->rest + 4 * asked->rules;
     for (uint32_t at = 0; at < asked->length; at++)
-        input_of(asked)[at] = stored[at % asked->stored];
-    memcpy(rules_of(asked), asked->rest, 4 * asked->rules);
+        input_of(asked)[at] = asked->input[at % asked->stored];
+    memcpy(rules_of(asked), asked->rule_bytes, 4 * asked->rules);
+    memcpy(id_of(asked), asked->id, (size_t)(asked->input - asked->id));
 }
 
 static int input_changed(const struct request *asked)
 {
-    const uint8_t *stored = asked->rest + 4 * asked->rules;
     for (uint32_t at = 0; at < asked->length; at++)
-        if (input_of(asked)[at] != stored[at % asked->stored])
+        if (input_of(asked)[at] != asked->input[at % asked->stored])
             return 1;
-    return memcmp(rules_of(asked), asked->rest, 4 * asked->rules) != 0;
+    return memcmp(rules_of(asked), asked->rule_bytes, 4 * asked->rules) != 0 ||
+           memcmp(id_of(asked), asked->id, (size_t)(asked->input - asked->id)) != 0;
 }
 
 /* How many numbers a call tells besides its answer. */
 static const int told_by[] = { [HEADERS] = 5, [ENCODES] = 1, [LISTINGS] = 5, [TABLES] = 1, [SECTIONS] = 2, [NORMAL_FORMS] = 1,
-                               [NAMES] = 0, [INTEL_RULES] = 0, [RECEPTIONS] = 5 };
+                               [NAMES] = 0, [INTEL_RULES] = 0, [RECEPTIONS] = 5, [CPER_LISTINGS] = 5 };
 
 /* The struct of a call, with a number before it and at least one after it. */
 static uint64_t numbers[1 + MOST_TOLD + 1];
@@ -306,6 +310,9 @@ static uint64_t call(const struct request *asked, void *told)
     case NAMES: return crashlog_name((uint32_t)asked->number, lent, asked->room);
     case INTEL_RULES: return crashlog_intel_rules(table, asked->room);
     case RECEPTIONS: return receive(asked, told);
+    case CPER_LISTINGS:
+        return crashlog_list_cper(input, asked->length, id_of(asked), rules, asked->rules, asked->number, table, asked->room,
+                                  told);
     default: _exit(3);
     }
 }
@@ -340,7 +347,7 @@ int main(void)
     uint8_t size[4];
     set_pattern();
     if (mprotect(inputs + 2 * MEGABYTE, PAGE, PROT_NONE) != 0 || mprotect(tables + PAGE, PAGE, PROT_NONE) != 0 ||
-        mprotect(pieces + PAGE, PAGE, PROT_NONE) != 0)
+        mprotect(pieces + PAGE, PAGE, PROT_NONE) != 0 || mprotect(ids + PAGE, PAGE, PROT_NONE) != 0)
         return 1;
     while (take(size, sizeof size) && number4(size) <= sizeof batch && take(batch, number4(size))) {
         uint8_t *to = answers;

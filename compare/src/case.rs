@@ -16,10 +16,12 @@ pub enum Call {
     Names,
     IntelRules,
     Receptions,
+    CperListings,
+    CperTexts,
 }
 
 /// Where the answer comes from. Why a region stopped and how records ended comes from document 02, by `stops`, and so does
-/// `whole`, by `expected`, and when a receiver tells a row.
+/// `whole`, by `expected`, when a receiver tells a row, and that the revision of a CPER's section is not asked.
 #[derive(Clone, Copy, Debug, PartialEq, Eq)]
 pub enum Source {
     Rust = 1,
@@ -33,9 +35,11 @@ pub struct Case {
     pub call: Call,
     pub source: Source,
     pub rules: Rc<[u32]>,
+    /// The record identifier that a listing of a CPER is asked for.
+    pub record_id: Option<[u8; 16]>,
     /// The try limit, the row, the record type or the lengths of the pieces.
     pub number: u64,
-    /// Elements of the lent buffer: numbers for listings, tables and receptions, bytes for encodes, normal forms and names.
+    /// Elements of the lent buffer: numbers for both listings, tables and receptions, bytes for encodes, normal forms and names.
     pub room: usize,
     pub input: Rc<[u8]>,
     /// The answer, then the numbers of what else the call tells, in order. A reception tells what its finish does; its answer
@@ -53,6 +57,7 @@ impl Case {
             call,
             source,
             rules: Rc::new([]),
+            record_id: None,
             number: 0,
             room: 0,
             input: input.clone(),
@@ -77,13 +82,14 @@ impl Case {
 
     /// Whether the listing is whole, where the answer is 0.
     pub fn whole(&self) -> Option<bool> {
-        (matches!(self.call, Call::Listings | Call::Receptions) && self.answer() == 0).then_some(self.told[4] == 1)
+        let listed = matches!(self.call, Call::Listings | Call::Receptions | Call::CperListings);
+        (listed && self.answer() == 0).then_some(self.told[4] == 1)
     }
 
     /// The rows that it writes.
     fn rows(&self) -> Option<Vec<Span>> {
         match self.call {
-            Call::Listings => Some(span::rows_in(&self.written)),
+            Call::Listings | Call::CperListings => Some(span::rows_in(&self.written)),
             Call::Receptions => Some(span::received_in(&self.written)),
             _ => None,
         }
@@ -100,9 +106,10 @@ impl Case {
     pub fn describe(&self) -> String {
         let Case { call, source, number, room, told, .. } = self;
         format!(
-            "{call:?}, answer from {source:?}\n  rules {:x?}\n  number {number}, room {room}\n  input ({} bytes) {}\n  \
-             must tell {told:?}\n  and write {}",
+            "{call:?}, answer from {source:?}\n  rules {:x?}\n  identifier {}\n  number {number}, room {room}\n  \
+             input ({} bytes) {}\n  must tell {told:?}\n  and write {}",
             self.rules,
+            self.record_id.map_or("none".to_string(), |id| hex(&id)),
             self.input.len(),
             hex(&self.input),
             hex(&self.written)

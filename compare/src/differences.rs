@@ -1,5 +1,6 @@
 //! Where the published form reads a CPER otherwise than document 01's stand-in, as docs/DIFFERENCES.md lists it.
 
+use crate::inputs::cper_regions::{CRASH_LOG, ID_AT, SECTION_HEADER};
 use crate::inputs::cpers::{DESCRIPTOR, FIRMWARE_ERROR, HEADER};
 use crate::told::{Container, Kept};
 
@@ -13,6 +14,17 @@ pub enum Difference {
     ReservedBytes,
     /// In a Firmware Error Record of revision below 2 sixteen zero bytes come after byte 15, and its last ones are lost.
     OldRevision,
+    /// A Crash Log under a last descriptor of 52 to 71 bytes is listed.
+    ShortDescriptorListed,
+    /// A Crash Log in a Firmware Error Record of revision below 2 is not listed.
+    OldRevisionUnlisted,
+}
+
+impl Difference {
+    pub const ALL: [Difference; 6] = {
+        use Difference::*;
+        [ShortDescriptor, ShortBody, ReservedBytes, OldRevision, ShortDescriptorListed, OldRevisionUnlisted]
+    };
 }
 
 struct Section {
@@ -37,6 +49,41 @@ pub fn predict(cper: &[u8], standin: &Container) -> (Container, Vec<Difference>)
         rewrite(&mut section.body, &mut differences);
     }
     (packed(&standin.normal[..HEADER], sections), differences)
+}
+
+/// Where the regions lie that the published form must find in a CPER's Crash Logs, and the differences that come in.
+pub fn predict_regions(cper: &[u8], standin: &Container) -> (Vec<Region>, Vec<Difference>) {
+    let mut differences = Vec::new();
+    let mut sections = sections_of(standin);
+    sections.retain(|section| {
+        let unlisted = is_crash_log(section) && is_old(section);
+        differences.extend(unlisted.then_some(Difference::OldRevisionUnlisted));
+        is_crash_log(section) && !unlisted
+    });
+    if let Some(section) = short_descriptor(cper).filter(|section| is_crash_log(section) && !is_old(section)) {
+        differences.push(Difference::ShortDescriptorListed);
+        sections.push(section);
+    }
+    (sections.iter().map(region_of).collect(), differences)
+}
+
+/// A region's offset in the CPER, and its length.
+pub type Region = (usize, usize);
+
+/// That of a section that is listed.
+fn region_of(section: &Section) -> Region {
+    let [_, offset, length] = section.kept.map(|number| number as usize);
+    (offset + SECTION_HEADER, length - SECTION_HEADER)
+}
+
+/// A section that is a Crash Log by document 02.
+fn is_crash_log(section: &Section) -> bool {
+    is_firmware_error(section) && section.body.get(ID_AT..SECTION_HEADER) == Some(&CRASH_LOG)
+}
+
+/// A section whose header has no identifier in the published form.
+fn is_old(section: &Section) -> bool {
+    section.body[1] < 2
 }
 
 fn sections_of(container: &Container) -> Vec<Section> {

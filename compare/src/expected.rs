@@ -1,6 +1,8 @@
 //! What each call must answer: the Rust's reading, with document 01's refusals, limits and rooms around it.
 
 use crate::case::{Call, Case, Source, table_bytes};
+use crate::inputs::cper_regions::CRASH_LOG;
+use crate::inputs::cpers;
 use crate::rust::standin;
 use crate::span::{self, Span};
 use crate::stops;
@@ -74,10 +76,50 @@ pub fn listing(rules: &Rc<[u32]>, region: &Rc<[u8]>, walk: &Option<Walk>, limit:
     let Some(walk) = walk else {
         return case.tell(&[if region.len() > MOST_BYTES { TOO_LONG } else { BAD_RULES }]);
     };
-    let cut = cut(walk, limit, room / span::WORDS);
+    listed(case, &cut(walk, limit, room / span::WORDS))
+}
+
+/// A listing to which is told what is left of the walk.
+fn listed(case: Case, cut: &Cut) -> Case {
     let source = if cut.answer == SPANS_FULL || cut.answer == TRIES_SPENT { Source::CutFromListing } else { Source::Rust };
     let told = [cut.answer, cut.rows.len() as u64, cut.tries, cut.bad_type, cut.whole as u64, cut.stop];
     Case { source, written: span_bytes(&cut.rows), ..case.tell(&told) }
+}
+
+/// The whole walk of a CPER's regions that have that identifier, within the comparison's domain.
+pub fn cper_walk(rules: &[u32], cper: &[u8], record_id: [u8; 16]) -> Option<Walk> {
+    assert!(cpers::normal_length(cper) <= cpers::MOST_COPIED);
+    if cper.len() > MOST_BYTES || !good_rules(rules) {
+        return None;
+    }
+    standin::set_rules(rules);
+    standin::walk_cper(cper, record_id)
+}
+
+/// A listing of a CPER's regions (document 02, C-15) under a limit, in a table of `room` numbers, cut from the whole walk;
+/// without one it is refused. No region's stop is told.
+pub fn cper_listing(
+    rules: &Rc<[u32]>,
+    cper: &Rc<[u8]>,
+    record_id: [u8; 16],
+    walk: &Option<Walk>,
+    limit: u64,
+    room: usize,
+) -> Case {
+    let case = Case {
+        rules: rules.clone(),
+        record_id: Some(record_id),
+        number: limit,
+        room,
+        ..Case::new(Call::CperListings, Source::Paper, cper)
+    };
+    let refused = |answer| Case { source: source(answer), ..case.clone().tell(&[answer]) };
+    match walk {
+        _ if cper.len() > MOST_BYTES => refused(TOO_LONG),
+        _ if !good_rules(rules) => refused(BAD_RULES),
+        None => refused(NOT_CPER),
+        Some(walk) => listed(case, &Cut { stop: stops::UNTOLD, ..cut(walk, limit, room / span::WORDS) }),
+    }
 }
 
 /// Rows as the bytes of a span table.
@@ -109,7 +151,7 @@ pub fn cut(walk: &Walk, limit: u64, room: usize) -> Cut {
             cut.rows.push(*row);
         }
     }
-    cut.stop = walk.stops[0];
+    cut.stop = *walk.stops.first().unwrap_or(&stops::UNTOLD);
     match walk.outcome {
         Outcome::BadHeader => Cut { answer: BAD_HEADER, ..cut },
         Outcome::BadType(header_type) => Cut { answer: BAD_TYPE, bad_type: header_type as u64, ..cut },
@@ -195,16 +237,27 @@ fn received(rows: &[Span], taken: &[usize]) -> Vec<[u32; 1 + span::WORDS]> {
 
 /// The dump's text: no rules, 512 rows, 81,920 tries, at most 65,535 bytes.
 pub fn text(region: &Rc<[u8]>) -> Case {
+    if region.len() > text::MOST_BYTES {
+        return printed(Call::Texts, &Case::new(Call::Listings, Source::Paper, region).tell(&[TOO_LONG]));
+    }
+    let walk = walk(&[], region);
+    printed(Call::Texts, &listing(&Rc::from([]), region, &walk, text::TRIES, span::WORDS * text::ROWS))
+}
+
+/// The dump's text of a CPER's Crash Logs: no rules, 4,096 rows, 1,310,720 tries.
+pub fn cper_text(cper: &Rc<[u8]>) -> Case {
+    let (walk, room) = (cper_walk(&[], cper, CRASH_LOG), span::WORDS * text::CPER_ROWS);
+    printed(Call::CperTexts, &cper_listing(&Rc::from([]), cper, CRASH_LOG, &walk, text::CPER_TRIES, room))
+}
+
+/// The text of a listing. What is too long is not the Rust's to say.
+fn printed(call: Call, listing: &Case) -> Case {
     let name = |record_type| standin::name_of(record_type).unwrap_or("UNKNOWN").to_string();
-    let (source, text) = if region.len() > text::MOST_BYTES {
-        (Source::Paper, text::format(&[], 0, false, TOO_LONG, name))
-    } else {
-        standin::set_rules(&[]);
-        let cut = cut(&standin::walk(region), text::TRIES as u64, text::ROWS);
-        (Source::Rust, text::format(&cut.rows, cut.tries, cut.whole, cut.answer, name))
-    };
-    let written = text.into_bytes();
-    Case { written: written.clone(), ..Case::new(Call::Texts, source, region).tell(&[written.len() as u64]) }
+    let [answer, _, tries, _, whole, _] = listing.told;
+    let written = text::format(&span::rows_in(&listing.written), tries, whole == 1, answer, name).into_bytes();
+    let source = if answer == TOO_LONG { Source::Paper } else { Source::Rust };
+    let case = Case::new(call, source, &listing.input).tell(&[written.len() as u64]);
+    Case { written, ..case }
 }
 
 /// What stands in the way of a CPER's being read: its length, or what the Rust says.

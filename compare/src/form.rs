@@ -4,7 +4,9 @@ use crate::span::NO_PARENT;
 use crate::stops;
 use crate::told::{Container, Good, Outcome, Tried, Walk};
 use form::Error;
-use form::cper::Cper;
+use form::cper::section::fer::{self, FirmwareErrorRecord};
+use form::cper::section::guids::FW_ERROR_RECORD;
+use form::cper::{Cper, CperSectionBody};
 use form::header::Version;
 use form::region::Region;
 
@@ -88,7 +90,7 @@ fn walk_top(bytes: &[u8]) -> (Option<Region>, Vec<Attempt>, Walk) {
         Err(Error::EmptyRegion) => Outcome::Empty,
         Err(error) => panic!("no region gives this: {error}"),
     };
-    let mut walk = Walk { steps: Vec::new(), rows: 0, outcome, stops: Vec::new(), unopened: 0 };
+    let mut walk = Walk::new(outcome);
     note_stop(bytes, &tries, &mut walk);
     (top.ok(), tries, walk)
 }
@@ -137,12 +139,57 @@ fn follow(region: &Region, tries: &[Attempt], level: u32, parent: u32, walk: &mu
     assert!(records.next().is_none() && children.next().is_none() && below.next().is_none());
 }
 
-/// Reads a CPER and writes its normal form.
-pub fn container(bytes: &[u8]) -> Option<Container> {
+/// Reads a CPER, with the place of each section's body in it.
+fn read(bytes: &[u8]) -> Option<(Cper, Vec<form::probe::Kept>)> {
     form::probe::take_kept();
     let cper = Cper::from_slice(bytes);
     let kept = form::probe::take_kept();
-    let cper = cper?;
+    Some((cper?, kept))
+}
+
+/// The regions in a CPER's Firmware Error Records that have that identifier: where each starts, and its bytes.
+pub fn regions(bytes: &[u8], record_id: [u8; 16]) -> Option<Vec<(usize, Vec<u8>)>> {
+    let (cper, kept) = read(bytes)?;
+    let mut regions = Vec::new();
+    for (section, kept) in cper.sections.iter().zip(kept) {
+        let Some(record) = firmware_error_record(&section.body) else { continue };
+        let is_asked_for = record.header.guid.to_bytes() == record_id;
+        if record_id == fer::guids::RECORD_ID_CRASHLOG.to_bytes() {
+            assert_eq!(is_crash_log(&record), is_asked_for && Region::from_slice(&record.payload).is_ok());
+        }
+        if is_asked_for {
+            regions.push((kept.offset as usize + record.header.len(), record.payload));
+        }
+    }
+    Some(regions)
+}
+
+/// Walks these regions, one after the other.
+pub fn walk_cper(bytes: &[u8], record_id: [u8; 16]) -> Option<Walk> {
+    let mut joined = Walk::new(Outcome::Empty);
+    for (offset, region) in regions(bytes, record_id)? {
+        joined.add(walk(&region), offset);
+    }
+    Some(joined)
+}
+
+/// A section's Firmware Error Record: as the Rust has read it, or, where it has kept raw bytes, as it reads them.
+fn firmware_error_record(body: &CperSectionBody) -> Option<FirmwareErrorRecord> {
+    match body {
+        CperSectionBody::FirmwareErrorRecord(record) => Some(record.clone()),
+        CperSectionBody::Unknown(FW_ERROR_RECORD, bytes) => FirmwareErrorRecord::from_slice(bytes),
+        CperSectionBody::Unknown(..) => None,
+    }
+}
+
+/// Whether the Rust has a region for it: it is a Crash Log with a record.
+fn is_crash_log(record: &FirmwareErrorRecord) -> bool {
+    Region::from_cper_section(&CperSectionBody::FirmwareErrorRecord(record.clone())).is_some()
+}
+
+/// Reads a CPER and writes its normal form.
+pub fn container(bytes: &[u8]) -> Option<Container> {
+    let (cper, kept) = read(bytes)?;
     Some(Container {
         kept: kept.iter().map(|kept| [kept.index, kept.offset, kept.length]).collect(),
         bodies: cper.sections.iter().map(|section| section.body.to_bytes()).collect(),

@@ -21,9 +21,9 @@ mod told;
 mod vectors;
 mod x86;
 
-use dump::Dump;
+use dump::Dumps;
 use kinds::published::Published;
-use kinds::{containers, encodes, headers, intel, listings, names, origins, receptions};
+use kinds::{containers, cper_listings, encodes, headers, intel, listings, names, origins, receptions};
 use library::Library;
 use random::Random;
 use std::path::Path;
@@ -34,12 +34,14 @@ use tally::Tally;
 fn main() -> ExitCode {
     let arguments: Vec<String> = env::args().skip(1).collect();
     match arguments.iter().map(String::as_str).collect::<Vec<_>>()[..] {
-        [caller, dump, "run", seed, count] => match (seed.parse(), count.parse()) {
-            (Ok(seed), Ok(count)) => run(start(caller), &dump_program(dump), seed, count),
+        [caller, dump, dump_cper, "run", seed, count] => match (seed.parse(), count.parse()) {
+            (Ok(seed), Ok(count)) => run(start(caller), &dumps(dump, dump_cper), seed, count),
             _ => stop("the seed and the count are numbers"),
         },
-        [caller, dump, "vectors", folder] => write_vectors(start(caller), &dump_program(dump), Path::new(folder)),
-        _ => stop("usage: compare CALLER DUMP run SEED COUNT, or compare CALLER DUMP vectors FOLDER"),
+        [caller, dump, dump_cper, "vectors", folder] => {
+            write_vectors(start(caller), &dumps(dump, dump_cper), Path::new(folder))
+        }
+        _ => stop("usage: compare CALLER DUMP DUMP_CPER run SEED COUNT, or compare CALLER DUMP DUMP_CPER vectors FOLDER"),
     }
 }
 
@@ -47,8 +49,8 @@ fn start(caller: &str) -> Tally {
     Tally::new(Library::start(caller).unwrap_or_else(|error| stop(&format!("{caller}: {error}"))))
 }
 
-fn dump_program(program: &str) -> Dump {
-    Dump { program: program.to_string() }
+fn dumps(region: &str, cper: &str) -> Dumps {
+    Dumps { region: region.to_string(), cper: cper.to_string() }
 }
 
 fn stop(why: &str) -> ! {
@@ -57,9 +59,9 @@ fn stop(why: &str) -> ! {
 }
 
 /// The fixed cases, then `count` rounds of random ones; by a seed that is told.
-fn run(mut tally: Tally, dump: &Dump, seed: u64, count: u64) -> ExitCode {
+fn run(mut tally: Tally, dumps: &Dumps, seed: u64, count: u64) -> ExitCode {
     let mut published = Published::new(&mut tally.library);
-    let fixed: [(&str, fn(&mut Tally)); 8] = [
+    let fixed: [(&str, fn(&mut Tally)); 9] = [
         ("names", names::fixed),
         ("headers", headers::fixed),
         ("encodes", encodes::fixed),
@@ -67,6 +69,7 @@ fn run(mut tally: Tally, dump: &Dump, seed: u64, count: u64) -> ExitCode {
         ("sockets and dies", origins::fixed),
         ("receptions", receptions::fixed),
         ("CPERs", containers::fixed),
+        ("CPER listings", cper_listings::fixed),
         ("Intel's rules", intel::fixed),
     ];
     for (name, cases) in fixed {
@@ -75,7 +78,7 @@ fn run(mut tally: Tally, dump: &Dump, seed: u64, count: u64) -> ExitCode {
         eprintln!("{name} tried out, {} cases so far", tally.cases());
     }
     published.fixed(&mut tally);
-    vectors::check(&mut tally, dump, &vectors::list());
+    vectors::check(&mut tally, dumps, &vectors::list());
 
     let mut random = Random::new(seed);
     for round in 0..count {
@@ -84,6 +87,7 @@ fn run(mut tally: Tally, dump: &Dump, seed: u64, count: u64) -> ExitCode {
         listings::round(&mut tally, &mut random);
         receptions::round(&mut tally, &mut random);
         containers::round(&mut tally, &mut random);
+        cper_listings::round(&mut tally, &mut random);
         published.round(&mut tally, &mut random);
         if (round + 1) % count.div_ceil(10) == 0 {
             eprintln!("round {} of {count}, {} cases so far", round + 1, tally.cases());
@@ -94,9 +98,9 @@ fn run(mut tally: Tally, dump: &Dump, seed: u64, count: u64) -> ExitCode {
 }
 
 /// Writes the replay's fixed list, after the library was tried on it.
-fn write_vectors(mut tally: Tally, dump: &Dump, folder: &Path) -> ExitCode {
+fn write_vectors(mut tally: Tally, dumps: &Dumps, folder: &Path) -> ExitCode {
     let cases = vectors::list();
-    vectors::check(&mut tally, dump, &cases);
+    vectors::check(&mut tally, dumps, &cases);
     if let Err(error) = vectors::write(folder, &cases) {
         stop(&format!("{}: {error}", folder.display()));
     }

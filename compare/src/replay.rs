@@ -9,7 +9,7 @@
 //!     28  u32      bytes of the input that are stored: the input is these, again and again
 //!     32  u32      bytes that the call leaves at the start of the lent buffer, or of the rows that a reception tells
 //!     36  6 x u64  what the call tells: its answer, then the numbers of its struct in order, then zeros
-//!     84  the rules, the stored input, the bytes left
+//!     84  the rules, the sixteen bytes of the identifier that a listing of a CPER is asked for, the stored input, the bytes left
 //!
 //! A reception is a start under the rules of a receiver that is shut, pieces of the input, and a finish, with a table of so much
 //! room. A piece has the next of the eight lengths, the lowest byte first and these again and again, but no more than is left of
@@ -25,7 +25,8 @@ const LONG: usize = 4096;
 
 pub fn bytes_of(case: &Case) -> Vec<u8> {
     let stored = &case.input[..if case.input.len() < LONG { case.input.len() } else { period(&case.input) }];
-    let size = 80 + 4 * case.rules.len() + stored.len() + case.written.len();
+    let identifier = case.record_id.as_slice().as_flattened();
+    let size = 80 + 4 * case.rules.len() + identifier.len() + stored.len() + case.written.len();
     let counts = [case.room, case.input.len(), stored.len(), case.written.len()];
     let mut bytes = Vec::with_capacity(4 + size);
     bytes.extend([size as u32, case.source as u32, case.rules.len() as u32].map(u32::to_le_bytes).concat());
@@ -33,6 +34,7 @@ pub fn bytes_of(case: &Case) -> Vec<u8> {
     bytes.extend(counts.map(|count| (count as u32).to_le_bytes()).concat());
     bytes.extend(case.told.map(u64::to_le_bytes).concat());
     bytes.extend(case.rules.iter().flat_map(|number| number.to_le_bytes()));
+    bytes.extend(identifier);
     bytes.extend(stored);
     bytes.extend(&case.written);
     bytes

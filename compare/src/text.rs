@@ -1,11 +1,16 @@
-//! The dump's text, by document 01, with the columns of document 02.
+//! The text of a dump, by document 01, with the columns of document 02.
 
 use crate::span::{NO_DIE, Span};
 use std::fmt::Write;
 
+/// The room for rows, the limit of tries and the longest input of a region's dump.
 pub const ROWS: usize = 512;
-pub const TRIES: usize = 81_920;
+pub const TRIES: u64 = 81_920;
 pub const MOST_BYTES: usize = 65_535;
+
+/// The room and the limit of a CPER's, whose input may be as long as a listing's.
+pub const CPER_ROWS: usize = 4096;
+pub const CPER_TRIES: u64 = 1_310_720;
 
 /// Heading, rows and last line, each ending in a newline.
 pub fn format(rows: &[Span], tries: u64, whole: bool, answer: u64, name: impl Fn(u8) -> String) -> String {

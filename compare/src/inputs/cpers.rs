@@ -9,6 +9,9 @@ pub const FIRMWARE_ERROR: [u8; 16] =
 pub const HEADER: usize = 128;
 pub const DESCRIPTOR: usize = 72;
 
+/// A CPER whose normal form is longer the Rust is not asked to read, since it copies each body.
+pub const MOST_COPIED: u64 = 1 << 27;
+
 /// A record header with that section count and all else zero.
 pub fn plain_header(count: u16) -> Vec<u8> {
     let mut bytes = vec![0; HEADER];
@@ -57,7 +60,8 @@ pub fn random_cper(random: &mut Random) -> Vec<u8> {
     bytes
 }
 
-fn header(random: &mut Random, count: usize) -> Vec<u8> {
+/// A record header with random fields; once in a while its section count is another.
+pub fn header(random: &mut Random, count: usize) -> Vec<u8> {
     let mut bytes = plain_header(count as u16);
     if random.once_in(8) {
         let stated = random.pick(&[count + 1, count.saturating_sub(1), 0xffff, 0x100 + count]);

@@ -1,5 +1,6 @@
 //! Inputs: made by a plan, random, or good ones with damage.
 
+pub mod cper_regions;
 pub mod cpers;
 pub mod damage;
 pub mod pieces;

@@ -13,12 +13,9 @@ const SECTIONS: &str = "sections";
 const NORMAL: &str = "normal forms";
 const LONG: &str = "long CPERs";
 
-/// More than this the Rust is not asked to copy.
-const MOST_COPIED: u64 = 1 << 27;
-
 /// What the stand-in form reads, within the comparison's domain.
 pub fn read(cper: &[u8]) -> Option<Container> {
-    assert!(cpers::normal_length(cper) <= MOST_COPIED);
+    assert!(cpers::normal_length(cper) <= cpers::MOST_COPIED);
     if cper.len() > MOST_BYTES { None } else { standin::container(cper) }
 }
 
@@ -148,7 +145,7 @@ pub fn round(tally: &mut Tally, random: &mut Random) {
     let cper = cpers::random_cper(random);
     check(tally, &cper);
     let damaged = damage::damaged(random, &cper);
-    if cpers::normal_length(&damaged) <= MOST_COPIED {
+    if cpers::normal_length(&damaged) <= cpers::MOST_COPIED {
         check(tally, &damaged);
     }
 }

@@ -1,13 +1,15 @@
-//! The Rust as published: with Intel's rules its headers and listings are the library's, and a CPER differs where predicted.
+//! The Rust as published: with Intel's rules its headers and listings are the library's, and a CPER, or the listing of one,
+//! differs where predicted.
 
 use super::{containers, intel};
 use crate::case::{Call, Case, Source, hex};
-use crate::differences::{Difference, predict};
+use crate::differences::{Difference, Region, predict, predict_regions};
 use crate::expected;
+use crate::inputs::cper_regions::{self, CRASH_LOG};
 use crate::inputs::{cpers, damage, regions};
 use crate::library::Library;
 use crate::random::Random;
-use crate::rust::published;
+use crate::rust::{published, standin};
 use crate::span;
 use crate::tally::Tally;
 use crate::told::Container;
@@ -16,6 +18,7 @@ use std::rc::Rc;
 const HEADERS: &str = "published headers";
 const LISTINGS: &str = "published listings";
 const CONTAINERS: &str = "published CPERs";
+const CPER_LISTINGS: &str = "published CPER listings";
 const PREDICTED: &str = "published, predicted";
 
 pub struct Published {
@@ -26,13 +29,13 @@ pub struct Published {
 
 impl Published {
     pub fn new(library: &mut Library) -> Published {
-        use Difference::*;
-        let seen = [ShortDescriptor, ShortBody, ReservedBytes, OldRevision].map(|difference| (difference, 0));
+        let seen = Difference::ALL.map(|difference| (difference, 0));
         Published { rules: intel::table(library), seen: seen.to_vec() }
     }
 
     pub fn fixed(&mut self, tally: &mut Tally) {
         let body: Vec<u8> = (1..60).collect();
+        self.fixed_listings(tally);
         for revision in 0..4 {
             for length in 0..body.len() {
                 let mut cper = cpers::plain(&[&body[..length]]);
@@ -51,6 +54,26 @@ impl Published {
         }
     }
 
+    /// A Crash Log of every revision; in a body of every length; and under a descriptor that is cut at every byte, where the body
+    /// takes the place of the descriptor before it.
+    fn fixed_listings(&mut self, tally: &mut Tally) {
+        let mut body = cper_regions::section(&CRASH_LOG, &regions::nest(2));
+        for revision in 0..=255 {
+            body[1] = revision;
+            self.cper_listing(tally, &cper_regions::of_bodies(&[body.clone(), body.clone()]));
+        }
+        for length in 0..body.len() {
+            self.cper_listing(tally, &cper_regions::of_bodies(&[body.clone(), body[..length].to_vec()]));
+        }
+        for revision in [1, 2] {
+            body[1] = revision;
+            let mut cper = [cpers::plain_header(2), body.clone()].concat();
+            cper.resize(cpers::HEADER + cpers::DESCRIPTOR, 0);
+            cper.extend(cper_regions::firmware_error(cpers::HEADER, body.len()));
+            (cpers::HEADER..=cper.len()).for_each(|length| self.cper_listing(tally, &cper[..length]));
+        }
+    }
+
     pub fn round(&mut self, tally: &mut Tally, random: &mut Random) {
         let region = regions::region(random, &self.rules);
         let damaged = damage::damaged(random, &region);
@@ -62,6 +85,13 @@ impl Published {
         let cper = cpers::random_cper(random);
         self.container(tally, &cper);
         self.container(tally, &damage::damaged(random, &cper));
+        let cper = cper_regions::random_cper(random, &self.rules, &CRASH_LOG);
+        let damaged = damage::damaged(random, &cper);
+        for cper in [cper, damaged] {
+            if cpers::normal_length(&cper) <= cpers::MOST_COPIED {
+                self.cper_listing(tally, &cper);
+            }
+        }
     }
 
     fn header(&self, tally: &mut Tally, bytes: &Rc<[u8]>) {
@@ -89,12 +119,40 @@ impl Published {
             agree(tally, cper, &published);
             return;
         }
+        let as_predicted = same(&predicted, &published) && !same(&standin, &published);
+        self.note(tally, cper, &differences, as_predicted);
+    }
+
+    /// The same for the listing of a CPER's Crash Logs.
+    fn cper_listing(&mut self, tally: &mut Tally, cper: &[u8]) {
+        let read = containers::read(cper);
+        let (predicted, differences) = read.map(|read| predict_regions(cper, &read)).unwrap_or_default();
+        if differences.is_empty() {
+            self.list_cper(tally, cper);
+            return;
+        }
+        let [standin, published] = [standin::regions(cper, CRASH_LOG), published::regions(cper, CRASH_LOG)].map(places);
+        self.note(tally, cper, &differences, published == predicted && published != standin);
+    }
+
+    /// The library lists what the published form walks.
+    fn list_cper(&self, tally: &mut Tally, cper: &[u8]) {
+        let walk = published::walk_cper(cper, CRASH_LOG);
+        let (tries, rows) = walk.as_ref().map_or((0, 0), |walk| (walk.steps.len() as u64, walk.rows as usize));
+        let case = expected::cper_listing(&self.rules, &Rc::from(cper), CRASH_LOG, &walk, tries, span::WORDS * (rows + 1));
+        tally.check(CPER_LISTINGS, case);
+    }
+
+    fn note(&mut self, tally: &mut Tally, cper: &[u8], differences: &[Difference], as_predicted: bool) {
         for (difference, seen) in &mut self.seen {
             *seen += differences.contains(difference) as u64;
         }
-        let as_predicted = same(&predicted, &published) && !same(&standin, &published);
         tally.note(PREDICTED, as_predicted, || format!("{differences:?} in {}", hex(cper)));
     }
+}
+
+fn places(regions: Option<Vec<(usize, Vec<u8>)>>) -> Vec<Region> {
+    regions.iter().flatten().map(|(offset, region)| (*offset, region.len())).collect()
 }
 
 /// The library gives the published form's table, sections and normal form.

@@ -2,6 +2,7 @@
 //! Rust or from document 01, never from the library; the list is then tried on the library too.
 
 mod boundaries;
+mod cper_listings;
 mod origins;
 mod receptions;
 mod sample;
@@ -10,7 +11,7 @@ mod whole;
 mod worked;
 
 use crate::case::{Call, Case};
-use crate::dump::Dump;
+use crate::dump::{self, Dumps};
 use crate::replay;
 use crate::tally::Tally;
 use std::path::Path;
@@ -18,7 +19,7 @@ use std::{fs, io};
 
 const KIND: &str = "fixed list";
 
-const FILES: [(Call, &str); 9] = [
+const FILES: [(Call, &str); 11] = [
     (Call::Headers, "headers"),
     (Call::Encodes, "encodes"),
     (Call::Listings, "listings"),
@@ -28,6 +29,8 @@ const FILES: [(Call, &str); 9] = [
     (Call::NormalForms, "normal_forms"),
     (Call::Names, "names"),
     (Call::Receptions, "receptions"),
+    (Call::CperListings, "cper_listings"),
+    (Call::CperTexts, "cper_texts"),
 ];
 
 pub fn list() -> Vec<Case> {
@@ -37,14 +40,15 @@ pub fn list() -> Vec<Case> {
     cases.extend(whole::list());
     cases.extend(origins::list());
     cases.extend(receptions::list());
+    cases.extend(cper_listings::list());
     cases.extend(sample::list());
     cases
 }
 
-pub fn check(tally: &mut Tally, dump: &Dump, cases: &[Case]) {
+pub fn check(tally: &mut Tally, dumps: &Dumps, cases: &[Case]) {
     for case in cases {
-        if case.call == Call::Texts {
-            let text = dump.text(&case.input);
+        if let Some(program) = dumps.program(case.call) {
+            let text = dump::text(program, &case.input);
             let same = text.as_ref().is_ok_and(|text| *text == case.written);
             tally.note(KIND, same, || format!("{}\n  the program: {text:?}", case.describe()));
         } else {
@@ -64,7 +68,8 @@ pub fn write(folder: &Path, cases: &[Case]) -> io::Result<()> {
         let mut answers: Vec<u64> = cases.iter().map(|case| case.answer()).collect();
         answers.sort();
         answers.dedup();
-        let told = if matches!(call, Call::Texts | Call::Names) { String::new() } else { format!(", answers {answers:?}") };
+        let lengths = matches!(call, Call::Texts | Call::CperTexts | Call::Names);
+        let told = if lengths { String::new() } else { format!(", answers {answers:?}") };
         println!("{name}: {} cases, {} bytes{told}", cases.len(), bytes.len());
     }
     Ok(())

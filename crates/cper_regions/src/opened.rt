@@ -17,19 +17,18 @@ pub(crate) const SECTION_HEADER_SIZE: usize = 32;
 
 const RECORD_ID_AT: usize = 16;
 
-// Whether the bytes from an offset on start with others.
-fn starts_with(s: &[u8], at: usize, wanted: &[u8]) -> bool
-    requires { ⌜ at + length (now wanted) ≤ length (now s) ⌝ }
-    ensures { λ r. ⌜ r ≡ startsWith (now (wanted .entry)) (drop at (now (s .entry))) ⌝ }
+// Whether the bytes from an offset on start with a GUID's. All sixteen are compared, so that it can be one step.
+fn starts_with(s: &[u8], at: usize, guid: [u8; 16]) -> bool
+    requires { ⌜ at + 16 ≤ length (now s) ⌝ }
+    ensures { λ r. ⌜ r ≡ startsWith guid (drop at (now (s .entry))) ⌝ }
 {
+    let mut same = true;
     let mut i: usize = 0;
-    while i < wanted.len() {
-        if s[at + i] != wanted[i] {
-            return false;
-        }
+    while i < 16 {
+        same = same & (s[at + i] == guid[i]);
         i = i + 1;
     }
-    true
+    same
 }
 
 // Whether a kept section is opened.
@@ -38,8 +37,7 @@ pub(crate) fn is_opened(cper: &[u8], record_id: &[u8; 16], section: Section) -> 
     ensures { λ r. ⌜ r ≡ isOpened (now (cper .entry)) (now (record_id .entry)) section ⌝ }
 {
     let type_at = descriptor_at(section.index) + cper_descr::SECTION_TYPE_AT;
-    let firmware_error = FIRMWARE_ERROR_RECORD;
-    if !starts_with(cper, type_at, &firmware_error) {
+    if !starts_with(cper, type_at, FIRMWARE_ERROR_RECORD) {
         return false;
     }
     if (section.size as usize) < SECTION_HEADER_SIZE {
@@ -47,5 +45,5 @@ pub(crate) fn is_opened(cper: &[u8], record_id: &[u8; 16], section: Section) -> 
     }
     let start = section.offset as usize;
     let end = start + (section.size as usize);
-    starts_with(&cper[start..end], RECORD_ID_AT, record_id)
+    starts_with(&cper[start..end], RECORD_ID_AT, *record_id)
 }

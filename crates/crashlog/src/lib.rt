@@ -3,6 +3,7 @@
 ghost use mathlib.Core.Path.{_≡_};
 ghost use Rattle.rules.specs.Intel.{intelOut};
 ghost use Rattle.region.specs.Listing.{listed};
+ghost use Rattle.cper_regions.specs.Listing.{cperListed};
 ghost use Rattle.names.specs.Names.{textOf, nameOut};
 ghost use Rattle.crashlog.specs.Listing.{numbersOut, listingOut};
 
@@ -47,6 +48,24 @@ pub extern "C" fn crashlog_list_flat(
     ensures { λ r. ⌜ (now (spans .exit), (now (told .exit), r)) ≡ listingOut (listed (now (rules .entry)) (now (region .entry)) limit (now (spans .entry))) ⌝ }
 {
     tell(region_flat::list_flat(region, rules, limit, spans), told)
+}
+
+// The listing of all regions of a CPER whose sections have the record identifier asked for.
+#[no_mangle]
+pub extern "C" fn crashlog_list_cper(
+    cper: &[u8],
+    record_id: &[u8; 16],
+    rules: &[u32],
+    limit: u64,
+    spans: &mut [u32],
+    told: &mut [u64; 5],
+) -> u32
+    ensures { λ r. ⌜ (now (spans .exit), (now (told .exit), r)) ≡ listingOut (cperListed (now (rules .entry)) (now (cper .entry)) (now (record_id .entry)) limit (now (spans .entry))) ⌝ }
+{
+    tell(
+        cper_regions::list_cper(cper, record_id, rules, limit, spans),
+        told,
+    )
 }
 
 // The length of a record type's name, which is written where it fits.

@@ -6,6 +6,7 @@ use crate::agree::left_bytes;
 use crate::agree::left_words;
 use crate::agree::tells;
 use crate::agree::tells_five;
+use crate::case::ID_BYTES;
 use crate::case::bytes_within;
 use crate::case::part;
 use crate::case::words_within;
@@ -82,6 +83,30 @@ pub(crate) fn listing(
     tells_five(answer as u64, heard, told) & left_words(spans, left)
 }
 
+// The listing of a CPER's regions.
+pub(crate) fn cper_listing(
+    cper: &[u8],
+    id: [u8; ID_BYTES],
+    rules: &[u32],
+    limit: u64,
+    spans: &mut [u32],
+    room: usize,
+    told: &[u8],
+    left: &[u8],
+) -> bool {
+    let lent = words_within(room, spans);
+    let mut heard = [UNTOUCHED_LONG; 5];
+    let answer = crashlog::crashlog_list_cper(
+        cper,
+        &id,
+        rules,
+        limit,
+        &mut spans[..lent],
+        &mut heard,
+    );
+    tells_five(answer as u64, heard, told) & left_words(spans, left)
+}
+
 pub(crate) fn text(
     region: &[u8],
     out: &mut [u8; text::MOST_TEXT],
@@ -89,6 +114,17 @@ pub(crate) fn text(
     left: &[u8],
 ) -> bool {
     let length = text::dump(region, out);
+    tells([length as u64, 0, 0, 0, 0, 0], told) & left_bytes(out, left)
+}
+
+// The text of a CPER's listing.
+pub(crate) fn cper_text(
+    cper: &[u8],
+    out: &mut [u8; text::MOST_CPER_TEXT],
+    told: &[u8],
+    left: &[u8],
+) -> bool {
+    let length = text::dump_cper(cper, out);
     tells([length as u64, 0, 0, 0, 0, 0], told) & left_bytes(out, left)
 }
 

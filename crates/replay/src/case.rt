@@ -1,8 +1,8 @@
 // A case, as bytes. All its numbers are little-endian. In the file the case's size stands before it, in 4 bytes.
 //
 //     0   source: 1 the Rust; 2 cut from the Rust's whole listing; 3 inverse of what the Rust decoded; 4 a sentence of document 01, or
-//         of document 02 on what a receiver refuses. Why a region stops, how records end, `whole` and when a row is told come from
-//         document 02 in each of them
+//         of document 02 on what a receiver refuses. Why a region stops, how records end, `whole`, when a row is told and which
+//         sections of a CPER are opened come from document 02 in each of them
 //     4   how many numbers of rule table
 //     8   the limit of a listing, the row of a section, the record type of a name, a byte for the length of each of eight pieces of a
 //         reception; else 0. 8 bytes
@@ -12,7 +12,7 @@
 //     28  how many bytes the call leaves at the start of the lent buffer, or of rows the calls of a reception tell; the rest of the
 //         buffer is as it was
 //     32  what the call tells: six numbers of 8 bytes, its answer, the numbers that come with it in their order, and then zeros
-//     80  the rules, the stored input, the bytes left
+//     80  the rules, the sixteen bytes of identifier that the listing of a CPER asks for, the stored input, the bytes left
 ghost use Prim.Native.Nat.{_≤_};
 ghost use lib.ListN.{length};
 ghost use Rattle.io.specs.Counts.{Counts};
@@ -29,9 +29,12 @@ const TOLD: usize = 32;
 
 const HEAD: usize = 80;
 
+pub const ID_BYTES: usize = 16;
+
 pub struct Case {
     pub source: u32,
     pub rules: usize,
+    pub id: usize,
     pub number: u64,
     pub room: usize,
     pub length: usize,
@@ -60,10 +63,12 @@ pub fn u64_in(bytes: &[u8], at: usize) -> u64 {
     le::u64_at(bytes, at)
 }
 
-pub fn case_of(bytes: &[u8]) -> Case {
+// A case with so many bytes of identifier.
+pub fn case_of(bytes: &[u8], id: usize) -> Case {
     Case {
         source: u32_in(bytes, 0),
         rules: u32_in(bytes, 4) as usize,
+        id: id,
         number: u64_in(bytes, NUMBER),
         room: u32_in(bytes, 16) as usize,
         length: u32_in(bytes, 20) as usize,
@@ -92,10 +97,15 @@ pub fn part(bytes: &[u8], from: usize, len: usize) -> &[u8]
     &bytes[from..end]
 }
 
-// What follows the rules: the stored input and the bytes left.
+// What follows the rules: the identifier, the stored input and the bytes left.
 fn after_rules(bytes: &[u8], case: Case) -> &[u8] {
     let rules = least(case.rules, MOST_RULES);
     part(bytes, HEAD + 4 * rules, MOST_CASE)
+}
+
+// What follows the identifier.
+fn after_id(bytes: &[u8], case: Case) -> &[u8] {
+    part(after_rules(bytes, case), case.id, MOST_CASE)
 }
 
 // A count, cut to a buffer's length.
@@ -125,7 +135,10 @@ pub fn is_sound(bytes: &[u8], case: Case) -> bool {
     if bytes.len() < HEAD + 4 * case.rules {
         return false;
     }
-    let rest = after_rules(bytes, case).len();
+    if after_rules(bytes, case).len() < case.id {
+        return false;
+    }
+    let rest = after_id(bytes, case).len();
     if rest < case.stored {
         return false;
     }
@@ -145,11 +158,11 @@ pub fn told_of(bytes: &[u8]) -> &[u8] {
 }
 
 pub fn stored_of(bytes: &[u8], case: Case) -> &[u8] {
-    part(after_rules(bytes, case), 0, case.stored)
+    part(after_id(bytes, case), 0, case.stored)
 }
 
 pub fn left_of(bytes: &[u8], case: Case) -> &[u8] {
-    part(after_rules(bytes, case), case.stored, case.left)
+    part(after_id(bytes, case), case.stored, case.left)
 }
 
 // The word of 4 bytes with an index, or `past` where the bytes end before it.
@@ -193,4 +206,11 @@ pub fn repeat(stored: &[u8], input: &mut [u8], count: usize) {
         input[i] = repeated(stored, i);
         i = i + 1;
     }
+}
+
+// The identifier.
+pub fn id_of(bytes: &[u8], case: Case) -> [u8; ID_BYTES] {
+    let mut id = [0u8; ID_BYTES];
+    repeat(after_rules(bytes, case), &mut id, ID_BYTES);
+    id
 }

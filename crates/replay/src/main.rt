@@ -3,11 +3,13 @@
 use crate::agree::UNTOUCHED;
 use crate::agree::UNTOUCHED_WORD;
 use crate::case::Case;
+use crate::case::ID_BYTES;
 use crate::case::MOST_CASE;
 use crate::case::MOST_INPUT;
 use crate::case::bytes_within;
 use crate::case::case_of;
 use crate::case::first_words;
+use crate::case::id_of;
 use crate::case::is_sound;
 use crate::case::left_of;
 use crate::case::lengths_of;
@@ -46,6 +48,8 @@ enum Kind {
     NormalForms,
     Names,
     Receptions,
+    CperListings,
+    CperTexts,
 }
 
 // What comes next in a file: a case of so many bytes, a case that is cut off, or its end.
@@ -96,12 +100,28 @@ fn agrees(kind: Kind, bytes: &[u8], case: Case, rules: &[u32], input: &[u8]) -> 
             let lengths = lengths_of(bytes);
             reception::reception(input, rules, lengths, &mut numbers, room, told, left)
         }
+        Kind::CperListings => {
+            let id = id_of(bytes, case);
+            calls::cper_listing(input, id, rules, number, &mut numbers, room, told, left)
+        }
+        Kind::CperTexts => {
+            let mut cper_page = [UNTOUCHED; text::MOST_CPER_TEXT];
+            calls::cper_text(input, &mut cper_page, told, left)
+        }
+    }
+}
+
+// How many bytes of identifier the cases of a kind have.
+fn id_bytes(kind: Kind) -> usize {
+    match kind {
+        Kind::CperListings => ID_BYTES,
+        _ => 0,
     }
 }
 
 // Makes a case's input in a buffer, and runs the case.
 fn run_with(kind: Kind, bytes: &[u8], rules: &[u32], buffer: &mut [u8; MOST_INPUT]) -> bool {
-    let case = case_of(bytes);
+    let case = case_of(bytes, id_bytes(kind));
     if !is_sound(bytes, case) {
         return false;
     }
@@ -245,4 +265,6 @@ fn main() {
     replay(Kind::NormalForms, b"normal_forms");
     replay(Kind::Names, b"names");
     replay(Kind::Receptions, b"receptions");
+    replay(Kind::CperListings, b"cper_listings");
+    replay(Kind::CperTexts, b"cper_texts");
 }

@@ -28,22 +28,22 @@ module _ (cper id : List ℕ) (k : Section) where
     by-identifier h = rw (typed, le-leb sectionHeader (k .size) h)
 
 -- what the type's test tells
-typed : (c : tie.After-starts-with) → (let a = c .before .before .before .before .args in isFirmwareError (a .cper .now) (a .section) ≡ c .starts-with .result)
+typed : (c : tie.After-starts-with) → (let a = c .before .before .before .args in isFirmwareError (a .cper .now) (a .section) ≡ c .starts-with .result)
 typed c =
-    let a = c .before .before .before .before .args in
-    ap (λ (at : ℕ). startsWith firmwareErrorRecord (drop (at + typeAt) (a .cper .now))) (sym (c .before .before .descriptor-at .ensures)) ∙ sym (c .starts-with .ensures)
+    let a = c .before .before .before .args in
+    ap (λ (at : ℕ). startsWith firmwareErrorRecord (drop (at + typeAt) (a .cper .now))) (sym (c .before .descriptor-at .ensures)) ∙ sym (c .starts-with .ensures)
 
 returns : tie.Need-returns
 returns c =
     let tested = c .before in
-    let a = tested .before .before .before .before .args in
+    let a = tested .before .before .before .args in
     other-type (a .cper .now) (a .record-id .now) (a .section) (typed tested ∙ not-true (tested .starts-with .result) (c .if1 .taken))
 
 returns-2 : tie.Need-returns-2
 returns-2 c =
     let passed = c .before .before in
     let tested = passed .before in
-    let a = tested .before .before .before .before .args in
+    let a = tested .before .before .before .args in
     no-header (a .cper .now) (a .record-id .now) (a .section) (typed tested ∙ not-false (tested .starts-with .result) (passed .if1 .left)) (omega arith)
 
 returns-3 : tie.Need-returns-3
@@ -51,7 +51,7 @@ returns-3 c =
     let body = c .before .before .before .before in
     let passed = body .before .before .before in
     let tested = passed .before in
-    let a = tested .before .before .before .before .args in
+    let a = tested .before .before .before .args in
     let size : a .section .offset + a .section .size - a .section .offset ≡ a .section .size = omega arith in
     c .starts-with2 .ensures
     ∙ ap (λ (n : ℕ). startsWith (a .record-id .now) (drop identifierAt (take n (drop (a .section .offset) (a .cper .now))))) size
@@ -62,7 +62,6 @@ is-opened-spec =
     tie.close
     (tie.spec
     (λ c κs. search needs)
-    (λ c. search needs)
     (λ c. search needs)
     (λ c κs. search needs)
     returns

@@ -1,7 +1,7 @@
--- `starts_with` tells whether the bytes from an offset on start with others.
--- The loop's invariant: what is left of both starts alike exactly where all of both does. Assumes nothing.
+-- `starts_with` tells whether the bytes from an offset on start with a GUID's.
+-- The loop's invariant: the bytes so far are the same and what is left of both starts alike, exactly where all of both does. Assumes nothing.
 use mathlib.Core.Path.{_≡_, ap, sym, _∙_}
-use mathlib.Core.Bool.{true, false, _&&_}
+use mathlib.Core.Bool.{Bool, _&&_, and-assoc, and-true}
 use mathlib.Core.List.{List}
 use Prim.Native.Nat.{ℕ, suc, _+_, _-_, _≤_, _<_}
 use native.Mathlib.Nat.{add-zero}
@@ -9,57 +9,44 @@ use native.Mathlib.Omega.{arith}
 use lib.Dec.{eqb}
 use lib.ListN.{length, drop, getD, drop-of-length-le}
 use lib.Seq.{drop-cons}
-use borrow.Author.Tests.{eq-eqb, ne-eqb}
 use Rattle.cper_header.specs.Record.{startsWith}
 use borrow.Author.Needs.{needs}
 use Rattle.cper_regions.proofs.opened.starts_with.Statement.{statement}
 use Rattle.cper_regions.proofs.opened.starts_with.Tie as tie
 
 abbrev Inv-loop : tie.InvT-loop
-Inv-loop s at wanted i₀ i = (i ≤ length wanted) × (startsWith (drop i wanted) (drop (at + i) s) ≡ startsWith wanted (drop at s))
+Inv-loop s at guid same₀ i₀ same i = (i ≤ 16) × ((same && startsWith (drop i guid) (drop (at + i) s)) ≡ startsWith guid (drop at s))
 
 abbrev μ-loop : tie.MeasureT-loop
-μ-loop s at wanted i₀ i = length wanted - i
+μ-loop s at guid same₀ i₀ same i = 16 - i
 
-module _ (wanted s : List ℕ) (i at : ℕ) (more : i < length wanted) (within : at < length s) where
-  -- the next byte of both, and what is left
-  next : startsWith (drop i wanted) (drop at s) ≡ (eqb (getD s at 0) (getD wanted i 0) && startsWith (drop (suc i) wanted) (drop (suc at) s))
-  unfolding startsWith
-  next = rw (drop-cons wanted i 0 more, drop-cons s at 0 within)
-
-  differs : (getD s at 0 ≡ getD wanted i 0 → ⊥) → startsWith (drop i wanted) (drop at s) ≡ false
-  differs f = next ∙ rw (ne-eqb (getD s at 0) (getD wanted i 0) f)
-
-  agrees : {j next-at : ℕ} → j ≡ suc i → next-at ≡ suc at → getD s at 0 ≡ getD wanted i 0 → startsWith (drop j wanted) (drop next-at s) ≡ startsWith (drop i wanted) (drop at s)
-  agrees p q e = sym (next ∙ rw (eq-eqb (getD s at 0) (getD wanted i 0) e, p, q))
+-- the next byte of both, and what is left
+next : (guid s : List ℕ) (same : Bool) {i j at at₁ : ℕ} → i < length guid → at < length s → j ≡ suc i → at₁ ≡ suc at
+    → (same && eqb (getD s at 0) (getD guid i 0) && startsWith (drop j guid) (drop at₁ s)) ≡ (same && startsWith (drop i guid) (drop at s))
+unfolding startsWith
+next guid s same {i} {j} {at} {at₁} more within p q = rw (p, q, drop-cons guid i 0 more, drop-cons s at 0 within) (and-assoc same _ _)
 
 -- nothing is left
-none : (wanted s : List ℕ) (i : ℕ) → length wanted ≤ i → startsWith (drop i wanted) s ≡ true
+none : (guid s : List ℕ) (same : Bool) (i : ℕ) → length guid ≤ i → (same && startsWith (drop i guid) s) ≡ same
 unfolding startsWith
-none wanted s i h = rw (drop-of-length-le wanted {i = i} h)
+none guid s same i h = rw (drop-of-length-le guid {i = i} h) (and-true same)
 
 loop-holds : tie.Need-loop-holds Inv-loop μ-loop
-loop-holds c = (omega arith, ap (λ (k : ℕ). startsWith (c .args .wanted .now) (drop k (c .args .s .now))) (add-zero (c .args .at)))
-
-returns : tie.Need-returns Inv-loop μ-loop
-returns c =
-    let l = c .before .before .before .before in
-    let a = l .before .args in
-    sym (sym (l .loop .inv .1) ∙ differs (a .wanted .now) (a .s .now) (l .loop .i) (a .at + l .loop .i) (omega arith) (omega arith) (c .if1 .taken))
+loop-holds c = (omega arith, ap (λ (k : ℕ). startsWith (c .args .t3) (drop k (c .args .s .now))) (add-zero (c .args .at)))
 
 loop-again : tie.Need-loop-again Inv-loop μ-loop
 loop-again c =
-    let l = c .before .before .before .before in
+    let l = c .before .before in
     let a = l .before .args in
     let i = l .loop .i in
     let step : i + 1 ≡ suc i = omega arith in
     let step-at : a .at + (i + 1) ≡ suc (a .at + i) = omega arith in
-    (omega arith, agrees (a .wanted .now) (a .s .now) i (a .at + i) (omega arith) (omega arith) step step-at (c .if1 .left) ∙ l .loop .inv .1)
+    (omega arith, next (a .t3) (a .s .now) (l .loop .same) (omega arith) (omega arith) step step-at ∙ l .loop .inv .1)
 
-returns-2 : tie.Need-returns-2 Inv-loop μ-loop
-returns-2 c =
-    let a = c .before .before .args in
-    sym (sym (c .before .loop .inv .1) ∙ none (a .wanted .now) _ (c .before .loop .i) (omega arith))
+returns : tie.Need-returns Inv-loop μ-loop
+returns c =
+    let l = c .before in
+    sym (none (l .before .args .t3) _ (l .loop .same) (l .loop .i) (omega arith)) ∙ l .loop .inv .1
 
 pub starts-with-spec : {M : Type 1} → statement M
 starts-with-spec =
@@ -71,8 +58,7 @@ starts-with-spec =
     (λ c. search needs)
     (λ c. search needs)
     (λ c. search needs)
-    returns
     (λ c. search needs)
     (λ c. search needs)
     loop-again
-    returns-2)
+    returns)
