@@ -10,7 +10,7 @@ use Rattle.cper_sections.specs.declared.kept.Section.{Section}
 use Rattle.cper_regions.specs.Regions.{regionsIn}
 use Rattle.cper_regions.specs.Listing.{joinedTries}
 
--- a kept section of a CPER that has so few
+-- a kept section: its index has 16 bits, and it lies in the CPER
 pub record Kept (cper : List ℕ) (k : Section) : Type 0 where
   pub few : k .index < 65536
   pub within : Within cper k
