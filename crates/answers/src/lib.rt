@@ -1,4 +1,6 @@
 // Document 01, 'Numbers the caller gets': the number of each answer, and the longest input that is looked at.
+#![tactic(auto)]
+
 pub mod stops;
 
 pub const DONE: u32 = 0;

@@ -11,7 +11,7 @@ use crate::{CHeader, header_in, header_out};
 use header::Judged;
 
 // The answer's number, and with DONE the word and the flags that the header is read by.
-#[derive(Drop)]
+#[derive(Clone, Copy)]
 pub struct Seen {
     pub answer: u32,
     pub word: u32,

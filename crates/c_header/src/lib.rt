@@ -1,4 +1,6 @@
 // A record header as C has it: one flat struct for every layout, and the ways there and back.
+#![tactic(auto)]
+
 ghost use Rattle.std.specs.Prelude.{◌≡◌};
 ghost use Rattle.header_judge.specs.Version.{bit};
 ghost use Rattle.c_header.specs.Header.{no_stamp, only_complete, error_extras, who_extras, socket_extras, fields_with, fields_of, header_out, has_complete, sound, fields_in, type_of, taken_of};
@@ -11,7 +13,7 @@ use header_judge::version::Version;
 
 // crashlog_header. The layout's number is the header type, 7 for the legacy server and 8 for the legacy GPU.
 #[repr(C)]
-#[derive(Drop)]
+#[derive(Clone, Copy)]
 pub struct CHeader {
     pub timestamp: u64,
     pub revision: u32,
@@ -38,7 +40,7 @@ pub struct CHeader {
 }
 
 // What only one layout or two have.
-#[derive(Drop)]
+#[derive(Clone, Copy)]
 pub struct Extras {
     pub error_status: u32,
     pub whoami: u32,
@@ -49,7 +51,7 @@ pub struct Extras {
 }
 
 // A layout's number, and the fields that only some layouts have: 0, or no, where this one lacks them.
-#[derive(Drop)]
+#[derive(Clone, Copy)]
 pub struct Fields {
     pub layout: u8,
     pub stamp: Stamp,
@@ -58,7 +60,7 @@ pub struct Fields {
 }
 
 // A header from C, and whether each of its values is one that C may hand in.
-#[derive(Drop)]
+#[derive(Clone, Copy)]
 pub struct Taken {
     pub ok: bool,
     pub header: Header,

@@ -1,4 +1,6 @@
 // The CPER section descriptor, UEFI N.2.2.
+#![tactic(auto)]
+
 ghost use Rattle.std.specs.Prelude.{◌≡◌, ◌++◌, ◌≤◌, length, drop};
 ghost use Rattle.cper_descr.specs.Descriptor.{descriptor_size, descriptor_of, moved, normal_descriptor, start_size, start_bytes, descriptor_bytes};
 
@@ -35,7 +37,7 @@ const FRU_TEXT: u32 = 2;
 // The remainder by it has the known bits alone.
 const KNOWN_BITS: u8 = 4;
 
-#[derive(Drop)]
+#[derive(Clone, Copy)]
 pub struct CperSectionDescriptor {
     pub section_offset: u32,
     pub section_length: u32,

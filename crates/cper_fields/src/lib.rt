@@ -1,8 +1,10 @@
 // What the CPER record header and the section descriptor share: validated fields, severities, fields of bytes.
+#![tactic(auto)]
+
 ghost use Rattle.std.specs.Prelude.{◌≡◌, ◌+◌, ◌≤◌, ◌<◌, length};
 ghost use Rattle.cper_fields.specs.Fields.{has, number_if, part, over, present, severity_of, severity_number};
 
-#[derive(Drop)]
+#[derive(Clone, Copy)]
 pub enum Severity {
     Recoverable,
     Fatal,
@@ -66,7 +68,7 @@ pub fn bytes16_at(s: &[u8], at: usize) -> [u8; 16]
 {
     let mut field = [0u8; 16];
     let end = at + 16;
-    bytes::copy(&s[at..end], &mut field);
+    field.copy_from_slice(&s[at..end]);
     field
 }
 
@@ -77,7 +79,7 @@ pub fn bytes20_at(s: &[u8], at: usize) -> [u8; 20]
 {
     let mut field = [0u8; 20];
     let end = at + 20;
-    bytes::copy(&s[at..end], &mut field);
+    field.copy_from_slice(&s[at..end]);
     field
 }
 
@@ -100,7 +102,8 @@ pub fn put_bytes(out: &mut [u8], at: usize, field: &[u8])
     requires { at + length field.now ≤ length out.old }
     ensures { out.new ≡ over out.old at (length field.now) field.now }
 {
-    bytes::copy(field, &mut out[at..]);
+    let end = at + field.len();
+    out[at..end].copy_from_slice(field);
 }
 
 // Writes a field of eight bytes.

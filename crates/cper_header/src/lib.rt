@@ -1,4 +1,6 @@
 // The CPER record header, UEFI N.2.1.
+#![tactic(auto)]
+
 ghost use Rattle.std.specs.Prelude.{◌≡◌, ◌++◌, cond, ◌+◌, ◌≤◌, length, drop};
 ghost use Rattle.cper_fields.specs.Fields.{present};
 ghost use Rattle.cper_header.specs.Record.{header_size, signature, is_cper, count_of};
@@ -74,7 +76,7 @@ fn sign(out: &mut [u8])
     ensures { out.new ≡ signature ++ drop 4 out.old }
 {
     let signature = SIGNATURE;
-    bytes::copy(&signature, out);
+    out[..4].copy_from_slice(&signature);
 }
 
 // The number of section descriptors that a header tells.
@@ -85,7 +87,7 @@ pub fn section_count(s: &[u8]) -> u16
     le::u16_at(s, SECTION_COUNT_AT)
 }
 
-#[derive(Drop)]
+#[derive(Clone, Copy)]
 pub struct Timestamp {
     pub seconds: u8,
     pub minutes: u8,
@@ -149,7 +151,7 @@ impl Timestamp {
     }
 }
 
-#[derive(Drop)]
+#[derive(Clone, Copy)]
 pub struct CperHeader {
     pub revision: u16,
     pub section_count: u16,

@@ -1,4 +1,6 @@
 // The normal form of a UEFI Common Platform Error Record: the kept sections, packed, with all that is unknown or absent zero.
+#![tactic(auto)]
+
 ghost use Rattle.std.specs.Prelude.{◌≡◌, ◌++◌, ◌≤◌, length, drop};
 ghost use Rattle.answers.specs.Numbers.{most_bytes};
 ghost use Rattle.cper_header.specs.Record.{header_size};
@@ -15,14 +17,14 @@ use cper_sections::kept::{Next, Section, descriptor_at, next_kept};
 const MOST_OUTPUT: u64 = 0xFFFF_FFFF;
 
 // What writing the normal form gives: the bytes written, none with a refusal.
-#[derive(Drop)]
+#[derive(Clone, Copy)]
 pub struct Normalised {
     pub answer: Answer,
     pub length: u32,
 }
 
 // How many sections are kept, and the length of the normal form.
-#[derive(Drop)]
+#[derive(Clone, Copy)]
 struct Extent {
     kept: usize,
     size: u64,

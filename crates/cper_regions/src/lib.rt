@@ -1,4 +1,6 @@
 // The listing of a CPER (document 02, C-15): the records of the regions in its Crash Log sections, one region after the other.
+#![tactic(auto)]
+
 ghost use Rattle.std.specs.Prelude.{◌≡◌, [], ◌∷◌, true, ◌*◌, ◌≤◌, length};
 ghost use Rattle.region_rows.specs.Rows.{width};
 ghost use Rattle.region_walk.specs.Steps.{going};

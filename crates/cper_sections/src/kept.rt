@@ -7,7 +7,7 @@ ghost use Rattle.cper_sections.specs.Steps.{Whole, NextKept};
 const HIGH: u64 = 4294967296;
 
 // A section: its descriptor's index, its body's offset and length.
-#[derive(Drop)]
+#[derive(Clone, Copy)]
 pub struct Section {
     pub index: usize,
     pub offset: u32,
@@ -15,7 +15,7 @@ pub struct Section {
 }
 
 // The next kept section of a loop over them.
-#[derive(Drop)]
+#[derive(Clone, Copy)]
 pub enum Next {
     Kept(Section),
     None,

@@ -1,4 +1,6 @@
 // The kept sections of a UEFI Common Platform Error Record: as a table, and one of them as a part of the input.
+#![tactic(auto)]
+
 ghost use Rattle.std.specs.Prelude.{◌≡◌, ◌+◌, ◌*◌, ◌≤◌, ◌<◌, length};
 ghost use Rattle.std.proofs.lemmas.List.Edits.{sets};
 ghost use Rattle.cper_header.specs.Record.{header_size};
@@ -13,7 +15,7 @@ use kept::{Next, Section, next_kept};
 const SECTION_NUMBERS: usize = 3;
 
 // What a call on a CPER answers.
-#[derive(Drop)]
+#[derive(Clone, Copy)]
 pub enum Answer {
     Done,
     TooLong,
@@ -24,14 +26,14 @@ pub enum Answer {
 }
 
 // What listing the sections gives; no rows with a refusal other than 'sections full'.
-#[derive(Drop)]
+#[derive(Clone, Copy)]
 pub struct Listed {
     pub answer: Answer,
     pub rows: u32,
 }
 
 // Where one kept section's body is; nowhere with a refusal.
-#[derive(Drop)]
+#[derive(Clone, Copy)]
 pub struct Located {
     pub answer: Answer,
     pub offset: u32,

@@ -1,5 +1,7 @@
 // The C library: exported functions over slices, numbers and plain structs, each a thin call of a proved function.
 // A call gives its answer by document 01's number; what else it tells is written into what is lent for it. include/crashlog.h documents them for C.
+#![tactic(auto)]
+
 ghost use Rattle.std.specs.Prelude.{◌≡◌};
 ghost use Rattle.rules.specs.Intel.{intel_out};
 ghost use Rattle.region.specs.Listing.{listed};

@@ -1,4 +1,6 @@
 // Prints the listing of the region on standard input: a heading, a line for each row, and the counts.
+#![tactic(auto)]
+
 use input::{Input, read_input};
 use libc::STDOUT_FILENO;
 

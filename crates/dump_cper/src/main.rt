@@ -1,4 +1,6 @@
 // Prints the listing of the Crash Log sections of the CPER on standard input: a heading, a line for each row, and the counts.
+#![tactic(auto)]
+
 use answers::MOST_BYTES;
 use input::{Input, read_input};
 use libc::STDOUT_FILENO;

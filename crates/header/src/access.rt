@@ -5,14 +5,14 @@ ghost use Rattle.header.specs.Access.{record_bytes, extended_offset, header_size
 use crate::{Header, HeaderType};
 
 // Where the extended record starts, if there is one.
-#[derive(Drop)]
+#[derive(Clone, Copy)]
 pub enum Extended {
     At(usize),
     Absent,
 }
 
 // The die that generated the record, if the header names one.
-#[derive(Drop)]
+#[derive(Clone, Copy)]
 pub enum Die {
     Id(u8),
     Absent,

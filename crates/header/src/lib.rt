@@ -1,4 +1,6 @@
 // Record headers, the port of header.rs: a header decoded from a slice, and what the Rust offers on one.
+#![tactic(auto)]
+
 ghost use Rattle.std.specs.Prelude.{◌≡◌, ◌<◌};
 ghost use Rattle.header_judge.specs.Head.{lacking, size_of};
 ghost use Rattle.header.specs.Header.{number_of, type_told, ending_told, refusal, judged_of, header_of, zero_header, header_from, decoded_of};
@@ -12,7 +14,7 @@ use header_judge::version::{Ending, Version, ending_number};
 use header_judge::{Head, RecordSize};
 
 // The fields that most layouts share.
-#[derive(Drop)]
+#[derive(Clone, Copy)]
 pub struct Stamp {
     pub timestamp: u64,
     pub agent_version: u32,
@@ -20,14 +22,14 @@ pub struct Stamp {
 }
 
 // A status of 31 bits, and above it whether the collection is complete.
-#[derive(Drop)]
+#[derive(Clone, Copy)]
 pub struct Status {
     pub completion_status: u32,
     pub collection_complete: bool,
 }
 
 // The fields that a layout has beside version and sizes. The status words of Type6 stand beside this enum.
-#[derive(Drop)]
+#[derive(Clone, Copy)]
 pub enum HeaderType {
     Type0,
     Type1,
@@ -68,7 +70,7 @@ pub enum HeaderType {
 }
 
 // Header of a Crash Log record. The status words are those of Type6, and 0 past its count.
-#[derive(Drop)]
+#[derive(Clone, Copy)]
 pub struct Header {
     pub version: Version,
     pub size: RecordSize,
@@ -77,7 +79,7 @@ pub struct Header {
 }
 
 // What a decode answers.
-#[derive(Drop)]
+#[derive(Clone, Copy)]
 pub enum Answer {
     Done,
     Ended(Ending),
@@ -87,7 +89,7 @@ pub enum Answer {
 }
 
 // The answer, and with Done the record's version word, its flags, the bytes that it declares and its header's size; else zeros.
-#[derive(Drop)]
+#[derive(Clone, Copy)]
 pub struct Judged {
     pub answer: Answer,
     pub word: u32,
@@ -97,7 +99,7 @@ pub struct Judged {
 }
 
 // What was judged, with the whole header; zeros where there is none.
-#[derive(Drop)]
+#[derive(Clone, Copy)]
 pub struct Decoded {
     pub answer: Answer,
     pub header: Header,

@@ -1,4 +1,6 @@
 // The header encoder, which the Rust does not have: the inverse of decode.
+#![tactic(auto)]
+
 ghost use Rattle.std.specs.Prelude.{◌≡◌};
 ghost use Rattle.header_write.specs.Fit.{status_fits, fields_fit};
 ghost use Rattle.header_encode.specs.Encode.{version_fits, layout_number, encodable, answered, encoded_of, number_of};
@@ -16,7 +18,7 @@ const STATUS_END: u32 = 2147483648;
 const MOST_STATUSES: u16 = 127;
 
 // What encode answers.
-#[derive(Drop)]
+#[derive(Clone, Copy)]
 pub enum Answer {
     Done,
     BadRules,
@@ -25,7 +27,7 @@ pub enum Answer {
 }
 
 // The answer, and with Done the bytes written; else 0.
-#[derive(Drop)]
+#[derive(Clone, Copy)]
 pub struct Encoded {
     pub answer: Answer,
     pub length: usize,

@@ -1,5 +1,7 @@
 // One try: what the header at the start of a slice is, as far as a span row needs it, and the parts that this is made of.
 // The walk calls the parts, which are numbers; `judge` and the decoder are made of the same parts.
+#![tactic(auto)]
+
 ghost use Rattle.std.specs.Prelude.{◌≡◌, ◌+◌, ◌*◌, ◌≤◌, ◌<◌, length};
 ghost use Rattle.header_judge.specs.Steps.{Measured, HeadBounds};
 ghost use Rattle.header_judge.specs.Head.{legacy, record_size, extended_size, sizes_end, unit, declared_of, count_of, shape_of, layout_of, enough, lacking, size_of, is_box, summary_of, head_with, head_of, declared_by};
@@ -11,7 +13,7 @@ use origin::origin_of;
 use version::{Ending, NO_WORD, ending_of, word_of};
 
 // How the fields of a header lie.
-#[derive(Drop)]
+#[derive(Clone, Copy)]
 pub enum Layout {
     Zero,
     One,
@@ -25,14 +27,14 @@ pub enum Layout {
     Bad,
 }
 
-#[derive(Drop)]
+#[derive(Clone, Copy)]
 pub struct Shape {
     pub layout: Layout,
     pub size: usize,
 }
 
 // Size of a Crash Log record, as its header has it.
-#[derive(Drop)]
+#[derive(Clone, Copy)]
 pub struct RecordSize {
     pub record_size: u16,
     pub extended_record_size: u16,
@@ -40,7 +42,7 @@ pub struct RecordSize {
 
 // What a header says of its record, as far as a span row needs it: the version word, its flags, the bytes declared, the header's size,
 // and the socket and the die that it names.
-#[derive(Drop)]
+#[derive(Clone, Copy)]
 pub struct Summary {
     pub word: u32,
     pub flags: u32,
@@ -51,7 +53,7 @@ pub struct Summary {
 }
 
 // What one try finds.
-#[derive(Drop)]
+#[derive(Clone, Copy)]
 pub enum Head {
     Ended(Ending),
     BadHeader,

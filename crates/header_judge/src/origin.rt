@@ -5,7 +5,7 @@ ghost use Rattle.header_judge.specs.Head.{lacking, size_of, server_die, origin_o
 use crate::{Layout, layout_of};
 
 // A header that names no socket has socket 0, and one that names no die NO_DIE.
-#[derive(Drop)]
+#[derive(Clone, Copy)]
 pub struct Origin {
     pub socket: u32,
     pub die: u32,

@@ -5,7 +5,7 @@ ghost use Rattle.header_judge.specs.Version.{word_of, ending_of, ending_number, 
 use answers::stops;
 
 // Version of a Crash Log record.
-#[derive(Drop)]
+#[derive(Clone, Copy)]
 pub struct Version {
     pub revision: u32,
     pub header_type: u16,
@@ -16,7 +16,7 @@ pub struct Version {
 }
 
 // How the records end, where no record starts.
-#[derive(Drop)]
+#[derive(Clone, Copy)]
 pub enum Ending {
     ZeroWord,
     DeadbeefWord,
@@ -24,7 +24,7 @@ pub enum Ending {
 }
 
 // The start of a record: its version, or how the records end.
-#[derive(Drop)]
+#[derive(Clone, Copy)]
 pub enum Start {
     Ended(Ending),
     Versioned(Version),

@@ -1,4 +1,6 @@
 // A header whose fields fit, written into an output that has room, by its layout.
+#![tactic(auto)]
+
 ghost use Rattle.std.specs.Prelude.{◌≡◌};
 ghost use Rattle.header_judge.specs.Version.{word_from};
 ghost use Rattle.header_write.specs.Steps.{Writable, written};

@@ -1,5 +1,7 @@
 // Unsigned numbers of 1, 2, 4 and 8 bytes, least byte first, read from a slice and written into one.
 // A wider number is two halves of the next narrower width, so one law on halves proves each width.
+#![tactic(auto)]
+
 ghost use Rattle.std.specs.Prelude.{◌≡◌, ◌+◌, ◌≤◌, length};
 ghost use Rattle.le.specs.Le.{le, put};
 

@@ -1,11 +1,13 @@
 // The names of the record types.
+#![tactic(auto)]
+
 ghost use Rattle.std.specs.Prelude.{◌≡◌};
 ghost use Rattle.names.specs.Names.{name_of, text_of, name_out};
 
 mod table;
 
 // A name's bytes, padded with zeros, and its length.
-#[derive(Drop)]
+#[derive(Clone, Copy)]
 pub struct Name {
     pub bytes: [u8; 16],
     pub len: usize,
@@ -16,7 +18,10 @@ pub fn name_of(record_type: u32) -> Name
     ensures { result ≡ name_of record_type }
 {
     let spelled = table::search(record_type);
-    let len = bytes::scan::find(&spelled, 0, spelled.len(), 0);
+    let len = match spelled.iter().position(|byte| *byte == 0) {
+        Some(end) => end,
+        None => spelled.len(),
+    };
     Name {
         bytes: spelled,
         len,
@@ -33,6 +38,6 @@ pub fn write(record_type: u32, out: &mut [u8]) -> u32
     if out.len() < len {
         return len as u32;
     }
-    bytes::copy(&spelled[..len], out);
+    out[..len].copy_from_slice(&spelled[..len]);
     len as u32
 }

@@ -4,7 +4,7 @@ ghost use Rattle.names.specs.Names.{named, text_of, padded};
 ghost use Rattle.names.specs.Steps.{held};
 
 // A record type beside its name, padded with zeros.
-#[derive(Drop)]
+#[derive(Clone, Copy)]
 struct Entry(u32, [u8; 16]);
 
 const ENTRIES: usize = 13;

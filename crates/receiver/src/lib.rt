@@ -1,4 +1,6 @@
 // The receiver of a region that comes in pieces (document 02, C-11), by value: start, feed and finish.
+#![tactic(auto)]
+
 ghost use Rattle.std.specs.Prelude.{◌≡◌, true, ◌++◌, ◌*◌, ◌≤◌, eqb, length, take};
 ghost use Rattle.rules.specs.Columns.{rules_in};
 ghost use Rattle.header_judge.specs.Version.{word_of};
@@ -39,7 +41,7 @@ const MOST_DECLARED: u64 = 524280;
 // What a receiver knows, beside its rules and the bytes that it keeps: the bytes taken; the offset of the record that it waits for; the
 // records before it; the blocks of its rules; whether each of those records leaves the listing whole; and whether it is in use.
 #[repr(C)]
-#[derive(Drop)]
+#[derive(Clone, Copy)]
 pub struct State {
     pub taken: u64,
     pub offset: u64,
@@ -51,7 +53,7 @@ pub struct State {
 
 // crashlog_receiver. The rules are a table's columns; kept are the first of the bytes that have come from the offset on.
 #[repr(C)]
-#[derive(Drop)]
+#[derive(Clone, Copy)]
 pub struct Receiver {
     pub state: State,
     pub rules: [u32; NUMBERS],
@@ -59,14 +61,14 @@ pub struct Receiver {
 }
 
 // A call's answer, and the state after it.
-#[derive(Drop)]
+#[derive(Clone, Copy)]
 pub struct Fed {
     pub state: State,
     pub answer: u32,
 }
 
 // A call's answer, and the receiver after it.
-#[derive(Drop)]
+#[derive(Clone, Copy)]
 pub struct Turned {
     pub receiver: Receiver,
     pub answer: u32,
@@ -104,7 +106,7 @@ pub fn start(receiver: Receiver, rules: &[u32]) -> Turned
 }
 
 // Whether a call can go on from a state and its kept bytes, and their word with its flags, so that they are looked up once.
-#[derive(Drop)]
+#[derive(Clone, Copy)]
 struct Seen {
     usable: bool,
     word: u32,

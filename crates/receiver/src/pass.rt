@@ -13,7 +13,7 @@ use region_rows::TOP;
 use rules::columns::NUMBERS;
 
 // How far a pass has come: the rows of the table, the bytes of its records, and whether all is whole so far.
-#[derive(Drop)]
+#[derive(Clone, Copy)]
 pub struct Passed {
     pub rows: u32,
     pub at: usize,

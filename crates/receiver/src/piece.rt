@@ -16,7 +16,7 @@ use rules::columns::NUMBERS;
 const JOINED: usize = 600;
 
 // What a piece leaves, beside the kept bytes: the rows written, the offset of the record that is waited for, and whether all is whole so far.
-#[derive(Drop)]
+#[derive(Clone, Copy)]
 pub struct Moved {
     pub rows: u32,
     pub offset: usize,
@@ -28,8 +28,9 @@ fn keep(s: &[u8], at: usize, kept: &mut [u8])
     requires { (at ≤ length s.now) × (length kept.old ≡ 536) }
     ensures { kept.new ≡ kept_of (drop at s.now) kept.old }
 {
-    let end = at + region_rows::least(s.len() - at, KEPT);
-    bytes::copy(&s[at..end], kept);
+    let len = region_rows::least(s.len() - at, KEPT);
+    let end = at + len;
+    kept[..len].copy_from_slice(&s[at..end]);
 }
 
 // Some bytes that are walked where they lie, from where the walk stands: the rest of them is kept. The flags of the last word are known.
@@ -72,9 +73,10 @@ fn join(kept: &[u8], piece: &[u8]) -> [u8; JOINED]
     ensures { take (length kept.now + length piece.now) result ≡ kept.now ++ piece.now }
 {
     let mut joined = [0u8; JOINED];
-    bytes::copy(kept, &mut joined);
     let at = kept.len();
-    bytes::copy(piece, &mut joined[at..]);
+    let end = at + piece.len();
+    joined[..at].copy_from_slice(kept);
+    joined[at..end].copy_from_slice(piece);
     joined
 }
 
@@ -116,8 +118,9 @@ fn take_in(held: usize, piece: &[u8], kept: &mut [u8]) -> usize
 {
     let len = region_rows::least(held, KEPT);
     let more = region_rows::least(piece.len(), KEPT - len);
-    bytes::copy(&piece[..more], &mut kept[len..]);
-    len + more
+    let end = len + more;
+    kept[len..end].copy_from_slice(&piece[..more]);
+    end
 }
 
 // A piece after `held` bytes, no record of which is all in. Their header stands in the first 536 bytes, and bytes of the piece alone follow

@@ -1,4 +1,6 @@
 // The nested listing of a region: what is refused, the walk from the top, and its answer.
+#![tactic(auto)]
+
 ghost use Rattle.std.specs.Prelude.{◌≡◌, ◌*◌, ◌≤◌, ◌<◌, length};
 ghost use Rattle.region_rows.specs.Rows.{width};
 ghost use Rattle.region.specs.Listing.{number_of, type_of, answer_without, answer_of, listing_told, refusal, listing_at, listed};
@@ -11,7 +13,7 @@ use region_try::stop::{Stop, stop_number};
 use region_walk::{DEEPEST, Walked};
 
 // What a listing answers: 'not a CPER' that of a CPER's regions, a bad header or type that of one region.
-#[derive(Drop)]
+#[derive(Clone, Copy)]
 pub enum Answer {
     Done,
     TooLong,
@@ -25,7 +27,7 @@ pub enum Answer {
 }
 
 // The answer, the rows written, the tries made, whether all is whole, and why the top region stopped.
-#[derive(Drop)]
+#[derive(Clone, Copy)]
 pub struct Listing {
     pub answer: Answer,
     pub rows: u32,

@@ -1,4 +1,6 @@
 // The nested listing of a region for a small stack (document 02, C-23).
+#![tactic(auto)]
+
 ghost use Rattle.std.specs.Prelude.{◌≡◌, ◌*◌, ◌≤◌, length};
 ghost use Rattle.region_rows.specs.Rows.{width};
 ghost use Rattle.region.specs.Listing.{listed};

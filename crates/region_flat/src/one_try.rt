@@ -14,7 +14,7 @@ use region_try::stop::{Stop, stop_ended};
 use sieve::SLOTS;
 
 // The last version word, and the last that was looked up in the rule table: the word of a Box comes back after those that stand inside it.
-#[derive(Drop)]
+#[derive(Clone, Copy)]
 pub struct Memory {
     pub word: u32,
     pub flags: u32,

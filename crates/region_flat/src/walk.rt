@@ -17,7 +17,7 @@ use region_walk::{DEEPEST, Walked, walk_end};
 const LEVELS: usize = 5;
 
 // A level of the place: the position that is next in it, where it ends, and the row of the Box that it stands in.
-#[derive(Drop)]
+#[derive(Clone, Copy)]
 pub struct Level {
     pub at: u32,
     pub till: u32,

@@ -1,10 +1,12 @@
 // A span row (document 01, 'The nested listing'; document 02, C-17) in a lent table: its numbers, written and read, and the rows that a table has room for.
+#![tactic(auto)]
+
 ghost use Rattle.std.specs.Prelude.{◌≡◌, min, ◌+◌, ◌*◌, ◌≤◌, length};
 ghost use Rattle.region_rows.specs.Rows.{width, most_rows, capacity, with_span, span_at};
 
 // A record's row: `parent` is a row's number, `size` the header's, `word` the version word; `socket` and `die` are those that the header
 // names.
-#[derive(Drop)]
+#[derive(Clone, Copy)]
 pub struct Span {
     pub level: u32,
     pub parent: u32,

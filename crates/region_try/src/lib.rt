@@ -1,4 +1,6 @@
 // One try: the header at a place is judged, and a record's row is written where one is free. Where no record is, the region stops.
+#![tactic(auto)]
+
 ghost use Rattle.std.specs.Prelude.{◌≡◌, ◌*◌, ◌≤◌, ◌<◌, ◌^◌, length};
 ghost use Rattle.region_rows.specs.Rows.{width};
 ghost use Rattle.region_try.specs.Tries.{span_of};
@@ -12,7 +14,7 @@ use region_rows::Span;
 use stop::{Stop, stop_ended};
 
 // What cut a walk off, if anything did.
-#[derive(Drop)]
+#[derive(Clone, Copy)]
 pub enum Cut {
     Going,
     Full,
@@ -20,7 +22,7 @@ pub enum Cut {
 }
 
 // How far a walk has come: the rows written, the tries made, and whether all is whole so far; a walk that is cut off is not.
-#[derive(Drop)]
+#[derive(Clone, Copy)]
 pub struct State {
     pub rows: u32,
     pub tries: u64,
@@ -29,7 +31,7 @@ pub struct State {
 }
 
 // What one try gives: no record, so that the region stops, or one for which no row is free, or one whose row is written.
-#[derive(Drop)]
+#[derive(Clone, Copy)]
 pub enum Found {
     Nothing {
         stop: Stop,

@@ -7,7 +7,7 @@ use answers::stops;
 use header_judge::version::Ending;
 
 // Untold where the walk is cut off, or not made. A bad type is told as a bad header.
-#[derive(Drop)]
+#[derive(Clone, Copy)]
 pub enum Stop {
     Untold,
     EndOfInput,

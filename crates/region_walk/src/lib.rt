@@ -1,5 +1,7 @@
 // The walk: the records of a region, and those inside its Boxes, as rows of a lent table.
 // The region walk and the Box walk call each other, one level deeper each time; a region's records are a loop.
+#![tactic(auto)]
+
 ghost use Rattle.std.specs.Prelude.{◌≡◌, ◌<◌};
 ghost use Rattle.region_try.specs.Steps.{state};
 ghost use Rattle.region_walk.specs.Steps.{start_bounds, room_in, Walkable, walk_end, going, region_run, box_run};
@@ -31,7 +33,7 @@ pub fn bounds_of(limit: u64, rules: &[u32], spans: &[u32]) -> [u64; BOUNDS]
 }
 
 // How a region's walk ends: the counts, and why the region stops, with its bad type, where nothing cuts the walk off.
-#[derive(Drop)]
+#[derive(Clone, Copy)]
 pub struct Walked {
     pub rows: u32,
     pub tries: u64,

@@ -30,7 +30,7 @@ const HEAD: usize = 80;
 
 pub const ID_BYTES: usize = 16;
 
-#[derive(Drop)]
+#[derive(Clone, Copy)]
 pub struct Case {
     pub source: u32,
     pub rules: usize,

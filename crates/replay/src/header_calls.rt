@@ -3,7 +3,7 @@ use c_header::CHeader;
 use crashlog::headers::{crashlog_decode, crashlog_encode};
 
 // The answer's number, and the header that the call leaves.
-#[derive(Drop)]
+#[derive(Clone, Copy)]
 pub struct Answered {
     pub answer: u32,
     pub header: CHeader,

@@ -1,5 +1,7 @@
 // Runs the library on a fixed list of cases and compares all that each call tells and leaves with what the list says.
 // The list is a file for each kind of call, in the folder that the program runs in. case.rt says how a case is laid out.
+#![tactic(auto)]
+
 use crate::agree::{UNTOUCHED, UNTOUCHED_WORD};
 use crate::case::{
     Case, ID_BYTES, MOST_CASE, MOST_INPUT, bytes_within, case_of, first_words, id_of, is_sound,
@@ -24,7 +26,7 @@ const MOST_NUMBERS: usize = 8192;
 
 const MOST_BYTES: usize = 65536;
 
-#[derive(Drop)]
+#[derive(Clone, Copy)]
 enum Kind {
     Headers,
     Encodes,
@@ -40,7 +42,7 @@ enum Kind {
 }
 
 // What comes next in a file: a case of so many bytes, a case that is cut off, or its end.
-#[derive(Drop)]
+#[derive(Clone, Copy)]
 enum Next {
     Bytes(usize),
     Cut,
@@ -48,7 +50,7 @@ enum Next {
 }
 
 // What came of a case; one that differs has its source.
-#[derive(Drop)]
+#[derive(Clone, Copy)]
 enum Outcome {
     Agrees,
     Differs(u64),
@@ -56,7 +58,7 @@ enum Outcome {
 }
 
 // How a file went: how many cases agree and how many differ, and the first of these with its source.
-#[derive(Drop)]
+#[derive(Clone, Copy)]
 struct Count {
     agree: u64,
     differ: u64,

@@ -19,7 +19,7 @@ const MOST_PIECES: usize = 8 * MOST_INPUT;
 
 // How far a reception is: the receiver; how many bytes of the region are taken; where in the rows wanted those start that are still to
 // be told; the refusal that ended the pieces, or 0; and whether all was as wanted.
-#[derive(Drop)]
+#[derive(Clone, Copy)]
 struct Progress {
     receiver: Receiver,
     taken: usize,

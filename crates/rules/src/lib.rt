@@ -1,5 +1,7 @@
 // The rule table in the place of errata.rs: whether a table is valid, and the flags that it gives a version word.
 // A table is rows of three numbers: mask, wanted, flags.
+#![tactic(auto)]
+
 ghost use Rattle.std.specs.Prelude.{◌≡◌, ◌+◌, ◌<◌, cond};
 ghost use Rattle.rules.specs.Rules.{has, rule, applies, flags_of, valid_of};
 

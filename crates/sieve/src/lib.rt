@@ -1,5 +1,7 @@
 // A sieve for version words. To most of them no row of a rule table applies; the sieve tells so without a look at the rows, and takes far less
 // room than a copy of them. A row can apply to a word only where its wanted number has the word's bits, among those that all rows look at.
+#![tactic(auto)]
+
 ghost use Rattle.std.specs.Prelude.{◌≡◌, ◌<◌};
 ghost use Rattle.sieve.specs.Sieve.{shared_mask, slot_of, slots_of, is_free};
 

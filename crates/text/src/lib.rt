@@ -1,4 +1,6 @@
 // The text of a dump, of a region or of a CPER, put into a lent buffer line by line.
+#![tactic(auto)]
+
 ghost use Rattle.std.specs.Prelude.{◌≡◌, ◌++◌, ◌+◌, ◌*◌, ◌≤◌, length, drop};
 ghost use Rattle.header_judge.specs.Version.{record_type};
 ghost use Rattle.region_rows.specs.Rows.{width, spans_in};

@@ -1,0 +1,72 @@
+-- `pack_kept` writes the normal form where its length fits the output and 32 bits.
+-- By what the header's and the sections' writes leave. Assumes nothing.
+use mathlib.Core.Path.{◌≡◌, ap, ap₂, ◌∙◌}
+use mathlib.Core.List.{List, ◌++◌}
+use Prim.Native.Nat.{ℕ, ◌+◌, ◌≤◌, ◌<◌}
+use native.Mathlib.Omega.{arith}
+use lib.ListN.{length, drop}
+use borrow.Author.Tests.{le-leb, lt-leb}
+use Rattle.cper_header.specs.Record.{header_size}
+use Rattle.cper_header.specs.Header.{header_of, counted, normal_header, header_bytes, bits_of}
+use Rattle.cper_header.proofs.Lengths.{length-header_read}
+use Rattle.cper_sections.specs.Sections.{kept_of}
+use Rattle.cper_sections.specs.declared.Answer.TheVariants.{Done, OutputShort}
+use Rattle.cper_normal.specs.Normal.{bodies_at, size_of, header_for, normal_of, most_output, normalised, unwritten, packed_in}
+use Rattle.cper_normal.specs.Steps.{pack}
+use Rattle.cper_normal.proofs.Packed.{kept_inside, packed}
+use Rattle.cper_normal.proofs.pack_kept.Goals as goal
+
+module _ (cper out : List ℕ) where
+  -- the output is too short
+  short : length out < size_of (kept_of cper) → unwritten out OutputShort ≡ packed_in cper out
+  unfolding packed_in
+  short h = rw (lt-leb (size_of (kept_of cper)) (length out) h)
+
+  module _ (room : size_of (kept_of cper) ≤ length out) where
+    -- the length is too large
+    large : most_output < size_of (kept_of cper) → unwritten out OutputShort ≡ packed_in cper out
+    unfolding packed_in
+    large h = rw (le-leb (size_of (kept_of cper)) (length out) room, lt-leb (size_of (kept_of cper)) most_output h)
+
+    -- header and sections are written
+    written : (size : ℕ) (mid last : List ℕ) → header_size ≤ length cper → size_of (kept_of cper) ≤ most_output → size ≡ size_of (kept_of cper)
+        → mid ≡ header_for cper (kept_of cper) ++ drop header_size out
+        → last ≡ pack cper mid 0 (bodies_at (kept_of cper)) (kept_of cper)
+        → (last, normalised Done size) ≡ packed_in cper out
+    unfolding packed_in normal_of
+    written size mid last h small e f g =
+        let ks = kept_of cper in
+        rw (le-leb (size_of ks) (length out) room, le-leb (size_of ks) most_output small)
+        (ap₂ (λ (l : List ℕ) (n : ℕ). (l, normalised Done n))
+        (g ∙ ap (λ (l : List ℕ). pack cper l 0 (bodies_at ks) ks) f
+        ∙ packed cper out ks (header_for cper ks) (kept_inside cper) (length-header_read cper (length ks) (size_of ks) (bits_of (header_of cper)) h) room)
+        e)
+
+pub returns-then-out-extent : goal.returns-then-out-extent
+returns-then-out-extent c =
+    let measured = c in
+    let a = measured.args in
+    let size = measured.measure-extent.ensures.size in
+    short a.cper.now a.out.now (omega arith)
+
+pub returns-then-extent-gt-MOST_OUTPUT : goal.returns-then-extent-gt-MOST_OUTPUT
+returns-then-extent-gt-MOST_OUTPUT c =
+    let measured = c in
+    let a = measured.args in
+    let size = measured.measure-extent.ensures.size in
+    large a.cper.now a.out.now (omega arith) (omega arith)
+
+pub returns : goal.returns
+returns c =
+    let packed = c in
+    let headed = packed in
+    let fits = headed in
+    let measured = fits in
+    let start = measured in
+    let a = start.args in
+    let m = measured.measure-extent.ensures in
+    let size = m.size in
+    written a.cper.now a.out.now (omega arith) measured.measure-extent.result.size headed.write_header.new.1.0 packed.write_sections.new.1.0 start.requires.0 (omega arith) size
+    (headed.write_header.ensures
+    ∙ ap₂ (λ (n k : ℕ). header_bytes (normal_header (counted n k (header_of a.cper.now))) ++ drop header_size a.out.now) m.kept size)
+    packed.write_sections.ensures

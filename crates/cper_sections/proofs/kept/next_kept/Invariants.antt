@@ -1,0 +1,16 @@
+-- `next_kept` gives the first kept section from an index on.
+-- The loop's invariant: from the index on, the same sections are kept as from the first. Assumes nothing.
+use mathlib.Core.Path.{◌≡◌, refl, sym, ◌∙◌}
+use mathlib.Core.Bool.{true, false}
+use Prim.Native.Nat.{◌-◌, ◌≤◌}
+use native.Mathlib.Omega.{arith}
+use Rattle.cper_sections.specs.Sections.{told, keeps}
+use Rattle.cper_sections.specs.Steps.{kept_in, Found}
+use Rattle.cper_sections.proofs.KeptFrom.{kept_end, kept_next, keeps_within}
+use Rattle.cper_sections.proofs.kept.next_kept.Given as goal
+
+abbrev pub invariant-loop-index : goal.invariant-loop-index
+invariant-loop-index l = (l.from ≤ l.index) × (l.index ≤ l.count) × (kept_in l.cper l.from l.count ≡ kept_in l.cper l.index l.count)
+
+abbrev pub decreases-loop-index : goal.decreases-loop-index
+decreases-loop-index l = l.count - l.index

@@ -1,0 +1,17 @@
+-- `flags_in` gives the union over the rows that apply.
+-- The loop's invariant: the flags so far, with those of the rows still to come, are the whole union. Assumes nothing.
+use mathlib.Core.Path.{◌≡◌, sym, ◌∙◌}
+use Prim.Native.Nat.{◌-◌, ◌*◌, ◌≤◌}
+use native.Mathlib.Nat.{sub-zero}
+use native.Mathlib.Omega.{arith}
+use Rattle.rules.specs.Rules.{rules_of, with_rules, flags_of}
+use Rattle.rules.proofs.Laws.{looked, none_left}
+use Rattle.rules.specs.Columns.{rules_from}
+use Rattle.rules.proofs.ColumnRows.{columns_step, columns_end}
+use Rattle.rules.proofs.columns.flags_in.Given as goal
+
+abbrev pub invariant-loop-row : goal.invariant-loop-row
+invariant-loop-row l = (l.row ≤ l.end) × (with_rules l.word l.all (rules_of (rules_from l.columns l.row (l.end - l.row))) ≡ flags_of (rules_from l.columns 0 l.end) l.word)
+
+abbrev pub decreases-loop-row : goal.decreases-loop-row
+decreases-loop-row l = l.end - l.row

@@ -1,0 +1,18 @@
+-- `valid` tells whether a table is valid.
+-- The loop's invariant: the table is valid exactly when the rows still to come have small flags. Assumes nothing.
+use mathlib.Core.Path.{◌≡◌, ◌∙◌}
+use mathlib.Core.Bool.{true, false}
+use mathlib.Core.List.{List}
+use Prim.Native.Nat.{ℕ, ◌+◌, ◌-◌, ◌/◌, ◌%◌, ◌≤◌, ◌<◌}
+use native.Mathlib.Omega.{arith}
+use lib.ListN.{length, get_or, drop}
+use borrow.Author.Tests.{eq-eqb, ne_eqb, le-leb, lt-leb}
+use Rattle.rules.specs.Rules.{rules_of, flags_small, valid_of}
+use Rattle.rules.proofs.Rows.{rows_step, rows_end}
+use Rattle.rules.proofs.valid.Given as goal
+
+abbrev pub invariant-loop-at : goal.invariant-loop-at
+invariant-loop-at l = (l.at % 3 ≡ 0) × (l.at ≤ length l.rules) × (flags_small (rules_of (drop l.at l.rules)) ≡ valid_of l.rules)
+
+abbrev pub decreases-loop-at : goal.decreases-loop-at
+decreases-loop-at l = length l.rules - l.at

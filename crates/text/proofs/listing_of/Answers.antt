@@ -1,0 +1,30 @@
+-- `listing_of` judges the length, then lists.
+-- By the test. Assumes nothing.
+use mathlib.Core.Path.{◌≡◌}
+use mathlib.Core.List.{List, []}
+use Prim.Native.Nat.{ℕ, ◌≤◌}
+use native.Mathlib.Omega.{arith}
+use borrow.Author.Tests.{lt-ltb, le-ltb}
+use lib.ListN.{length}
+use Rattle.region.specs.declared.Listing.{Listing}
+use Rattle.region.specs.Listing.{listed}
+use Rattle.text.specs.Dump.{most_input, most_tries, listing}
+use Rattle.text.proofs.listing_of.Goals as goal
+
+-- a region that is not too long is listed
+work : (region t : List ℕ) {x : List ℕ × Listing} → length region ≤ most_input → x ≡ listed [] region most_tries t → x ≡ listing region t
+unfolding listing
+work region t h e = rw (le-ltb most_input (length region) h) e
+
+pub returns-then-region-gt-MOST_INPUT : goal.returns-then-region-gt-MOST_INPUT
+unfolding listing
+returns-then-region-gt-MOST_INPUT c =
+    let a = c.args in
+    (rw (c.refused.ensures, lt-ltb most_input (length a.region.now) (omega arith)), rw c.refused.ensures (omega arith))
+
+pub returns : goal.returns
+returns c =
+    let listed = c in
+    let tested = listed in
+    let a = tested.args in
+    (work a.region.now a.spans.now (omega (arith, tested.if-region-gt-MOST_INPUT.false)) listed.list.ensures.0, listed.list.ensures.1)

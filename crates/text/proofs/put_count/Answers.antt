@@ -1,0 +1,18 @@
+-- `put_count` puts a text and a number.
+-- One after the other; a number of 64 bits has at most `most_digits` digits. Assumes nothing.
+use native.Mathlib.Omega.{arith}
+use Rattle.text.proofs.Numbers.{decimal_le}
+use Rattle.text.proofs.Pieces.{then}
+use Rattle.text.proofs.put_count.Goals as goal
+
+pub put_decimal-requires : goal.put_decimal-requires
+put_decimal-requires c =
+    let text = c in
+    let start = text in
+    omega (arith, text.put_text-next.ensures.ends, decimal_le 19 start.args.n (omega (arith, start.ranges.n)))
+
+pub returns : goal.returns
+returns c =
+    let number = c in
+    let text = number in
+    then text.put_text-next.ensures number.put_decimal.ensures

@@ -1,0 +1,10 @@
+-- `put_version` puts a version word and a space.
+-- One after the other. Assumes nothing.
+use Rattle.text.proofs.Pieces.{then}
+use Rattle.text.proofs.put_version.Goals as goal
+
+pub returns : goal.returns
+returns c =
+    let space = c in
+    let digits = space in
+    then digits.put_hex-digits.ensures space.put_text.ensures

@@ -1,0 +1,15 @@
+-- `put_whole` puts yes or no.
+-- By the test. Assumes nothing.
+use native.Mathlib.Omega.{arith}
+use Rattle.text.proofs.Pieces.{fewer}
+use Rattle.text.proofs.put_whole.Goals as goal
+
+pub returns-then-whole : goal.returns-then-whole
+returns-then-whole c =
+    let put = c in
+    rw put.if-whole.true put.put_text.ensures
+
+pub returns : goal.returns
+returns c =
+    let put = c in
+    rw put.if-whole.false (fewer 3 put.put-text2.ensures (omega arith))
