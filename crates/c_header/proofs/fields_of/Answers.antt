@@ -16,7 +16,7 @@ returns-in-Type1 c =
 pub returns-in-Type2 : goal.returns-in-Type2
 returns-in-Type2 c =
     let none = c in
-    c.fields_with-in-Type2.ensures ∙ rw (none.only_complete-no_status.ensures, none.error_extras-no_extras.ensures, c.header-type.given.1)
+    c.fields_with-in-Type2.ensures ∙ rw (none.only_complete-no_status.ensures, none.error_extras-no_extras.ensures, c.header_type.given.1)
 
 pub returns-in-Type3 : goal.returns-in-Type3
 returns-in-Type3 c =

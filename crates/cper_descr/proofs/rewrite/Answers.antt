@@ -44,7 +44,7 @@ abbrev start : (c : tie.After-put-start) → Laid descriptor_size 16 c.put_start
 start c =
     let a = (first c).args in
     laid_start a.out.now (first c).requires.1 a.offset c.put_start.ensures c.u32_at.ensures c.u16_at.ensures
-    (ap (λ (b : ℕ). b % 4) (read c).u8_at-bits.ensures ∙ known_bits (le 1 a.s.now 10)) c.u32-at2.ensures
+    (ap (λ (b : ℕ). b % 4) (read c).u8_at-bits.ensures ∙ known_bits (le 1 a.s.now 10)) c.u32_at-2.ensures
 
 abbrev type : (c : tie.After-move16) → Laid descriptor_size 32 c.move16.new.1.1.0
 type c =
@@ -61,13 +61,13 @@ abbrev severity : (c : tie.After-put-u32) → Laid descriptor_size 52 c.put_u32.
 severity c =
     let told = c in
     laid_number (fru (identified c)) 4 tt c.put_u32.ensures
-    (c.severity_number.ensures ∙ ap severity_number (told.severity_of-severity.ensures ∙ ap severity_of told.u32-at3.ensures))
+    (c.severity_number.ensures ∙ ap severity_number (told.severity_of-severity.ensures ∙ ap severity_of told.u32_at-3.ensures))
 
 abbrev text : (c : tie.After-move20) → Laid descriptor_size 72 c.move20.new.1.1.0
 text c =
     let began = started (typed (identified (rated c))) in
     laid_moved (severity (rated c)) 20 (first began).args.s.now _ (inside began 72 tt) c.move20.ensures
-    (c.has-bit2.ensures ∙ ap (λ (b : ℕ). has b fru_text_bit) (read began).u8_at-bits.ensures)
+    (c.has_bit-2.ensures ∙ ap (λ (b : ℕ). has b fru_text_bit) (read began).u8_at-bits.ensures)
 
 -- ---- the needs
 

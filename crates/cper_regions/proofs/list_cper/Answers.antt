@@ -41,24 +41,24 @@ limited c = omega arith
 pub returns-then-cper-gt-MOST_BYTES : goal.returns-then-cper-gt-MOST_BYTES
 returns-then-cper-gt-MOST_BYTES c =
     let a = c.args in
-    with_fit a.rules.now a.cper.now a.record-id.now a.limit a.spans.now
-    (rw c.refused.ensures (listed_long a.rules.now a.cper.now a.record-id.now a.limit a.spans.now (omega arith)))
+    with_fit a.rules.now a.cper.now a.record_id.now a.limit a.spans.now
+    (rw c.refused.ensures (listed_long a.rules.now a.cper.now a.record_id.now a.limit a.spans.now (omega arith)))
 
 pub returns-then-not-valid : goal.returns-then-not-valid
 returns-then-not-valid c =
     let judged = c in
     let a = (start judged).args in
     let bad : valid_of a.rules.now ≡ false = sym judged.valid.ensures ∙ not-true judged.valid.result c.if-not-valid.true in
-    with_fit a.rules.now a.cper.now a.record-id.now a.limit a.spans.now
-    (rw c.refused-then-not-valid.ensures (listed_rules a.rules.now a.cper.now a.record-id.now a.limit a.spans.now (omega arith) bad))
+    with_fit a.rules.now a.cper.now a.record_id.now a.limit a.spans.now
+    (rw c.refused-then-not-valid.ensures (listed_rules a.rules.now a.cper.now a.record_id.now a.limit a.spans.now (omega arith) bad))
 
 pub returns-then-not-is_cper : goal.returns-then-not-is_cper
 returns-then-not-is_cper c =
     let seen = c in
     let a = (start seen).args in
     let other : is_cper a.cper.now ≡ false = sym seen.is_cper.ensures ∙ not-true seen.is_cper.result c.if-not-is_cper.true in
-    with_fit a.rules.now a.cper.now a.record-id.now a.limit a.spans.now
-    (rw c.refused-then-not-is_cper.ensures (listed_header a.rules.now a.cper.now a.record-id.now a.limit a.spans.now (omega arith) (good seen) other))
+    with_fit a.rules.now a.cper.now a.record_id.now a.limit a.spans.now
+    (rw c.refused-then-not-is_cper.ensures (listed_header a.rules.now a.cper.now a.record_id.now a.limit a.spans.now (omega arith) (good seen) other))
 
 pub columns_of-columns-requires : goal.columns_of-columns-requires
 columns_of-columns-requires c = valid_rows (begin c).args.rules.now (good c)
@@ -83,7 +83,7 @@ returns c =
     let p = passed lent in
     let a = (begin p).args in
     let y = walk.walk_sections-end in
-    with_fit a.rules.now a.cper.now a.record-id.now a.limit a.spans.now
+    with_fit a.rules.now a.cper.now a.record_id.now a.limit a.spans.now
     (rw (c.listing_at.ensures, c.walk_end.ensures)
-    (listed_run a.rules.now a.cper.now a.record-id.now a.limit a.spans.now (omega arith) (good p) (is p) (y.new.1.1.1.1.0, y.result)
+    (listed_run a.rules.now a.cper.now a.record_id.now a.limit a.spans.now (omega arith) (good p) (is p) (y.new.1.1.1.1.0, y.result)
     (rw (lent.bounds_of-bounds.ensures, lent.columns_of-columns.ensures, start_table a.rules.now a.limit a.spans.now (good p)) at y.ensures)))

@@ -28,11 +28,11 @@ start l = l
 -- other sections that are those still to come end as all do
 ends-in : (l : tie.At-loop invariant-loop decreases-loop) {ks : List Section}
     → (let a = (start l).args in kept_in a.cper.now l.loop-section.index l.section_count-count.result ≡ ks
-    → sections_run a.cper.now a.record-id.now a.rules.now a.bounds.now ks (going l.loop-section.spans l.loop-section.rows l.loop-section.tries l.loop-section.whole)
-    ≡ sections_run a.cper.now a.record-id.now a.rules.now a.bounds.now (kept_of a.cper.now) (going a.spans.now 0 0 true))
+    → sections_run a.cper.now a.record_id.now a.rules.now a.bounds.now ks (going l.loop-section.spans l.loop-section.rows l.loop-section.tries l.loop-section.whole)
+    ≡ sections_run a.cper.now a.record_id.now a.rules.now a.bounds.now (kept_of a.cper.now) (going a.spans.now 0 0 true))
 ends-in l e =
     let a = (start l).args in
-    ap (λ (ks : List Section). sections_run a.cper.now a.record-id.now a.rules.now a.bounds.now ks (going l.loop-section.spans l.loop-section.rows l.loop-section.tries l.loop-section.whole)) (sym e)
+    ap (λ (ks : List Section). sections_run a.cper.now a.record_id.now a.rules.now a.bounds.now ks (going l.loop-section.spans l.loop-section.rows l.loop-section.tries l.loop-section.whole)) (sym e)
     ∙ l.loop-section.invariant.ends
 
 -- ---- the section that was found
@@ -57,7 +57,7 @@ loop-section-init c =
       few = omega arith;
       on = omega arith;
       same = refl;
-      ends = ap (λ (ks : List Section). sections_run a.cper.now a.record-id.now a.rules.now a.bounds.now ks (going a.spans.now 0 0 true))
+      ends = ap (λ (ks : List Section). sections_run a.cper.now a.record_id.now a.rules.now a.bounds.now ks (going a.spans.now 0 0 true))
           (kept_start a.cper.now c.section_count-count.result c.section_count-count.ensures);
     }
 
@@ -67,7 +67,7 @@ returns-in_default c =
     let l = found in
     let a = (start l).args in
     rw c.counts.ensures
-    (sym (walk_none a.cper.now a.record-id.now a.rules.now a.bounds.now _) ∙ ends-in l (rw c.enum_told.given.1 at found.next_kept-next.ensures))
+    (sym (walk_none a.cper.now a.record_id.now a.rules.now a.bounds.now _) ∙ ends-in l (rw c.enum_told.given.1 at found.next_kept-next.ensures))
 
 pub shape_of-spans-in_default : goal.shape_of-spans-in_default
 shape_of-spans-in_default c = c.loop-section.invariant.same
@@ -94,7 +94,7 @@ returns-in_default-cut c =
     let l = looped (next walked) in
     let a = (start l).args in
     rw c.counts-in_default-cut.ensures
-    (walk_ends a.cper.now a.record-id.now a.rules.now a.bounds.now _ _ _ walked.walk_section-walked.ensures (tag_cut walked.walk_section-walked.result.cut c.in_default-cut.keys2)
+    (walk_ends a.cper.now a.record_id.now a.rules.now a.bounds.now _ _ _ walked.walk_section-walked.ensures (tag_cut walked.walk_section-walked.result.cut c.in_default-cut.keys2)
     ∙ ends-in l (found (next walked)).rest)
 
 pub overflow_add-index : goal.overflow_add-index
@@ -113,6 +113,6 @@ loop-section-preserved c =
       few = l.loop-section.inv.few;
       on = omega (arith, f.below);
       same = long walked;
-      ends = walk_next a.cper.now a.record-id.now a.rules.now a.bounds.now _ _ _ walked.walk_section-walked.ensures c.enum_told-in-Going-1.given.1
+      ends = walk_next a.cper.now a.record_id.now a.rules.now a.bounds.now _ _ _ walked.walk_section-walked.ensures c.enum_told-in-Going-1.given.1
           ∙ ends-in l f.rest;
     }

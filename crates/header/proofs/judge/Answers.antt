@@ -31,7 +31,7 @@ returns-in-BadHeader c = found c c.enum_told.given.1 c.refused-in-BadHeader.ensu
 
 pub returns-in-BadType : goal.returns-in-BadType
 unfolding judged_from
-returns-in-BadType c = found c c.header-type.given.1 c.refused-in-BadType.ensures
+returns-in-BadType c = found c c.header_type.given.1 c.refused-in-BadType.ensures
 
 pub returns-in-Record : goal.returns-in-Record
 unfolding judged_from

@@ -63,7 +63,7 @@ returns-then-layout_number c =
     let fits = word in
     let args = fits.args in
     refused args.rules.now args.header fits.version_fits.ensures fits.if-not-version_fits.false word.as_u32-word.ensures flags.if-word-eq-NO_WORD.false flags.if-word.false
-    flags.flags.ensures chosen.layout_of-chosen.ensures chosen.layout_number.ensures c.layout_in.ensures c.layout-number2.ensures c.if-layout_number.true
+    flags.flags.ensures chosen.layout_of-chosen.ensures chosen.layout_number.ensures c.layout_in.ensures c.layout_number-2.ensures c.if-layout_number.true
 
 pub returns : goal.returns
 returns c =
@@ -73,5 +73,5 @@ returns c =
     let fits = word in
     let args = fits.args in
     taken args.rules.now args.header fits.version_fits.ensures fits.if-not-version_fits.false word.as_u32-word.ensures flags.if-word-eq-NO_WORD.false flags.if-word.false
-    flags.flags.ensures chosen.layout_of-chosen.ensures chosen.layout_number.ensures c.layout_in.ensures c.layout-number2.ensures
+    flags.flags.ensures chosen.layout_of-chosen.ensures chosen.layout_number.ensures c.layout_in.ensures c.layout_number-2.ensures
     c.if-layout_number.false c.fields_fit.ensures

@@ -20,4 +20,4 @@ returns c =
     let word = worded.word_of-word in
     let flags = flagged.flags in
     let judged = c.judge_with.ensures in
-    (judged.0 ∙ known a.rules.now a.s.now word.result flags.result word.ensures flags.ensures, judged.1)
+    record { value = judged.0 ∙ known a.rules.now a.s.now word.result flags.result word.ensures flags.ensures; head_bounds = judged.1 }

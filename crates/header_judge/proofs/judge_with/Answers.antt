@@ -27,37 +27,37 @@ module _ (c : tie.After-size-of) where
   there = c.if-word-eq-NO_WORD.false
 
 -- past the tests a size is found
-sized : (c : tie.Else3) → lacking < c.type_size.result
+sized : (c : tie.Else3) → lacking < c.size_of-size.result
 sized c = omega arith
 
 pub returns-then-word-eq-NO_WORD : goal.returns-then-word-eq-NO_WORD
 returns-then-word-eq-NO_WORD c =
     let a = c.args in
-    (ap Ended c.Ending-of.ensures ∙ sym (head_ended a.s.now a.word a.flags c.if-word-eq-NO_WORD.true), tt)
+    record { value = ap Ended c.ending_of.ensures ∙ sym (head_ended a.s.now a.word a.flags c.if-word-eq-NO_WORD.true); head_bounds = tt }
 
 pub returns-then-size-eq-NO_SIZE : goal.returns-then-size-eq-NO_SIZE
 returns-then-size-eq-NO_SIZE c =
     let s = c in
-    let bad = sym s.type_size.ensures.0 ∙ c.if-size-eq-NO_SIZE.true in
-    (sym (head_bad_type (bytes s) (word s) (flags s) (there s) bad), (bad_from_seven (bytes s) (word s) (flags s) bad, omega arith))
+    let bad = sym s.size_of-size.ensures.value ∙ c.if-size-eq-NO_SIZE.true in
+    record { value = sym (head_bad_type (bytes s) (word s) (flags s) (there s) bad); head_bounds = (bad_from_seven (bytes s) (word s) (flags s) bad, omega arith) }
 
 pub returns-then-size-eq-LACKING : goal.returns-then-size-eq-LACKING
 returns-then-size-eq-LACKING c =
     let s = c in
-    (sym (head_bad_header (bytes s) (word s) (flags s) (there s) (sym s.type_size.ensures.0 ∙ c.if-size-eq-LACKING.true)), tt)
+    record { value = sym (head_bad_header (bytes s) (word s) (flags s) (there s) (sym s.size_of-size.ensures.value ∙ c.if-size-eq-LACKING.true)); head_bounds = tt }
 
 pub declared_of-declared-requires : goal.declared_of-declared-requires
-declared_of-declared-requires c = (c.type_size.ensures.1 (sized c)).sizes
+declared_of-declared-requires c = (c.size_of-size.ensures.measured (sized c)).sizes
 
 pub summary_of-requires : goal.summary_of-requires
-summary_of-requires c = (c.declared_of-declared.ensures.0, c.type_size.ensures.0, sized c)
+summary_of-requires c = (c.declared_of-declared.ensures.0, c.size_of-size.ensures.value, sized c)
 
 pub returns : goal.returns
 returns c =
     let more = sized c in
     let s = c in
-    let bounds = s.type_size.ensures.1 more in
+    let bounds = s.size_of-size.ensures.measured more in
     let said = c.summary_of.ensures in (
-      ap Record said ∙ sym (head_record (bytes s) (word s) (flags s) (there s) (rw s.type_size.ensures.0 at more)),
-      (rw (said, ← c.declared_of-declared.ensures.0) c.declared_of-declared.ensures.1, rw (said, ← s.type_size.ensures.0) bounds.least, rw (said, ← s.type_size.ensures.0) bounds.most),
+      ap Record said ∙ sym (head_record (bytes s) (word s) (flags s) (there s) (rw s.size_of-size.ensures.value at more)),
+      (rw (said, ← c.declared_of-declared.ensures.0) c.declared_of-declared.ensures.1, rw (said, ← s.size_of-size.ensures.value) bounds.least, rw (said, ← s.size_of-size.ensures.value) bounds.most),
     )

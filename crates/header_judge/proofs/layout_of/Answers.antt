@@ -15,11 +15,11 @@ returns-then-has_flag-2 c =
     let args = c.args in
     let has-flag = c.has_flag in
     let if1 = c.if-has_flag in
-    layout_gpu args.word args.flags (sym has-flag.ensures ∙ if1.false) (sym c.has-flag2.ensures ∙ c.if-has_flag-2.true)
+    layout_gpu args.word args.flags (sym has-flag.ensures ∙ if1.false) (sym c.has_flag-2.ensures ∙ c.if-has_flag-2.true)
 
 pub returns : goal.returns
 returns c =
     let server = c in
     let args = server.args in
     ap (λ (p : Shape). p.layout) c.shape_of-shape.ensures
-    ∙ layout_typed args.word args.flags (sym server.has_flag.ensures ∙ server.if-has_flag.false) (sym c.has-flag2.ensures ∙ c.if-has_flag-2.false)
+    ∙ layout_typed args.word args.flags (sym server.has_flag.ensures ∙ server.if-has_flag.false) (sym c.has_flag-2.ensures ∙ c.if-has_flag-2.false)

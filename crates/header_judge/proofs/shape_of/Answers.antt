@@ -15,7 +15,7 @@ past : {t : ℕ} (k : ℕ) → k ≤ t → (t ≡ k → ⊥) → suc k ≤ t
 past k h f = omega arith
 
 -- past every type that has an arm of its own
-beyond : (c : tie.At-match-rest) → 7 ≤ c.args.header-type
+beyond : (c : tie.At-match-rest) → 7 ≤ c.args.header_type
 beyond c = past 6 (past 5 (past 4 (past 3 (past 2 (past 1 (past 0 zero≤ c.in_default-1.rest.0.0.0.0.0.0.1) c.in_default-1.rest.0.0.0.0.0.1) c.in_default-1.rest.0.0.0.0.1) c.in_default-1.rest.0.0.0.1) c.in_default-1.rest.0.0.1) c.in_default-1.rest.0.1) c.in_default-1.rest.1
 
 -- a bad layout has no size
@@ -46,9 +46,9 @@ returns-in-6 c = rw c.in_default-1.keys7 (ap (λ (n : ℕ). record { layout = Si
 pub returns-in-7-to-15 : goal.returns-in-7-to-15
 returns-in-7-to-15 c =
     let args = c.args in
-    bad args.s.now args.header-type (layout_bad args.header-type (beyond c))
+    bad args.s.now args.header_type (layout_bad args.header_type (beyond c))
 
 pub returns-in_default : goal.returns-in_default
 returns-in_default c =
     let args = c.args in
-    bad args.s.now args.header-type (layout_bad args.header-type (beyond c))
+    bad args.s.now args.header_type (layout_bad args.header_type (beyond c))

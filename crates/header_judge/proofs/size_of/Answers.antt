@@ -30,6 +30,6 @@ pub returns : goal.returns
 returns c =
     let plain = c in
     let a = plain.args in
-    both a.s.now a.word a.flags c.sized2.result
-    (c.sized2.ensures ∙ ap (λ (p : Shape). enough a.s.now p.size) c.shape_of-shape.ensures
+    both a.s.now a.word a.flags c.sized-2.result
+    (c.sized-2.ensures ∙ ap (λ (p : Shape). enough a.s.now p.size) c.shape_of-shape.ensures
     ∙ size_typed a.s.now a.word a.flags (sym plain.is_legacy.ensures ∙ plain.if-is_legacy.false) (omega arith))

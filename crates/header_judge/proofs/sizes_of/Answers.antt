@@ -34,4 +34,4 @@ returns c =
     let is-legacy = c.is_legacy in
     let if1 = c.if-is_legacy in
     let e = plain_sizes args.s.now args.flags (sym is-legacy.ensures ∙ if1.false) in
-    (c.u16-at2.ensures ∙ e.0, c.u16-at3.ensures ∙ e.1)
+    (c.u16_at-2.ensures ∙ e.0, c.u16_at-3.ensures ∙ e.1)

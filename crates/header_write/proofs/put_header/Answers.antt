@@ -41,7 +41,7 @@ pub put_sized-requires-in-Type1 : goal.put_sized-requires-in-Type1
 put_sized-requires-in-Type1 c = here c c.enum_told-in-Type1-1.given.1
 
 pub put_type2-requires : goal.put_type2-requires
-put_type2-requires c = here c c.header-type.given.1
+put_type2-requires c = here c c.header_type.given.1
 
 pub put_type3-requires : goal.put_type3-requires
 put_type3-requires c = here c c.header_type-in-Type3-1.given.1
@@ -74,7 +74,7 @@ returns-in-Type1 c =
 pub returns-in-Type2 : goal.returns-in-Type2
 returns-in-Type2 c =
     let told = c in
-    ends told told.header-type.given.1 c.put_type2.ensures
+    ends told told.header_type.given.1 c.put_type2.ensures
 
 pub returns-in-Type3 : goal.returns-in-Type3
 returns-in-Type3 c =

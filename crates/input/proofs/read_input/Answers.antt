@@ -27,7 +27,7 @@ more c = c.input.given.0.0
 -- they are within the buffer
 more-fits : (c : tie.Else1 invariant-loop decreases-loop) → (turn c).loop-count.count + more c ≤ length (turn c).loop-count.buffer
 more-fits c =
-    let read_Some = c.read_Some in
+    let read_Some = c.read_some-input in
     free (turn c).loop-count.buffer (turn c).loop-count.count (more c) read_Some.result (omega arith) c.input.given.1 read_Some.ensures
 
 pub overflow_add-count : goal.overflow_add-count

@@ -23,4 +23,4 @@ ends : (t : ℕ) {bytes : List ℕ} {len : ℕ} → bytes ≡ padded (text_of t)
 ends t found first = rw (first, found, whole t, zero-add (index_of 0 (padded (text_of t))), name_ends t)
 
 pub returns-in-Some : goal.returns-in-Some
-returns-in-Some c = ends c.args.record-type c.search-spelled.ensures c.find.ensures.0
+returns-in-Some c = ends c.args.record_type c.search-spelled.ensures c.find.ensures.0

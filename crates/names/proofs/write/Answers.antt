@@ -44,37 +44,37 @@ module _ (t : ℕ) {name : Name} (e : name ≡ name_of t) where
 
 pub overflow_cast-result : goal.overflow_cast-result
 overflow_cast-result c =
-    let h = small c.args.record-type c.name_of-name.ensures in
+    let h = small c.args.record_type c.name_of-name.ensures in
     search rules
 
 pub returns-then-out-len : goal.returns-then-out-len
 returns-then-out-len c =
     let args = c.args in
-    short args.record-type c.name_of-name.ensures args.out.now (omega arith)
+    short args.record_type c.name_of-name.ensures args.out.now (omega arith)
 
 pub slice_bounds-spelled-end : goal.slice_bounds-spelled-end
-slice_bounds-spelled-end c = held c.args.record-type c.name_of-name.ensures
+slice_bounds-spelled-end c = held c.args.record_type c.name_of-name.ensures
 
 pub UNKNOWN-slice-aggregate-copy : goal.UNKNOWN-slice-aggregate-copy
 UNKNOWN-slice-aggregate-copy c =
     let name = c in
-    let h = front name.args.record-type name.name_of-name.ensures in
+    let h = front name.args.record_type name.name_of-name.ensures in
     search rules
 
 pub UNKNOWN-copy-requires : goal.UNKNOWN-copy-requires
 UNKNOWN-copy-requires c =
     let name = c in
-    let h = front name.args.record-type name.name_of-name.ensures in
+    let h = front name.args.record_type name.name_of-name.ensures in
     omega arith
 
 pub overflow_cast-result-2 : goal.overflow_cast-result-2
 overflow_cast-result-2 c =
     let name = c in
-    let h = small name.args.record-type name.name_of-name.ensures in
+    let h = small name.args.record_type name.name_of-name.ensures in
     search rules
 
 pub returns : goal.returns
 returns c =
     let name = c in
     let args = name.args in
-    copied args.record-type name.name_of-name.ensures args.out.now (omega arith) refl c.copy.ensures.1
+    copied args.record_type name.name_of-name.ensures args.out.now (omega arith) refl c.copy.ensures.1

@@ -58,7 +58,7 @@ returns-then-not-seen c =
     let judged = c in
     let a = judged.args in
     let bad : usable a.state a.rules.now a.kept.now ≡ false =
-    sym judged.see-seen.ensures.0 ∙ not-true judged.see-seen.result.usable c.if-not-seen.true in
+    sym judged.see-seen.ensures.usable_value ∙ not-true judged.see-seen.result.usable c.if-not-seen.true in
     rw (c.refused.ensures.0, c.refused.ensures.1) (feed_unusable a.state a.rules.now a.piece.now a.kept.now a.spans.now bad)
 
 pub returns-then-piece-room_of : goal.returns-then-piece-room_of
@@ -85,7 +85,7 @@ pub take_piece-moved-requires : goal.take_piece-moved-requires
 take_piece-moved-requires c =
     let passed = c in
     let u = used (sized passed) in
-    ((good u, few passed, (start u).pre, room_enough (start u).args.spans.now (room passed)), u.see-seen.ensures.1)
+    record { kept_value = (good u, few passed, (start u).pre, room_enough (start u).args.spans.now (room passed)); known = u.see-seen.ensures.known }
 
 pub overflow_add-result : goal.overflow_add-result
 overflow_add-result c =

@@ -37,7 +37,7 @@ pub returns-then-not-seen : goal.returns-then-not-seen
 returns-then-not-seen c =
     let judged = c in
     let a = judged.args in
-    finish_unusable a.state a.rules.now a.kept.now a.spans.now (sym judged.see-seen.ensures.0 ∙ not-true judged.see-seen.result.usable c.if-not-seen.true)
+    finish_unusable a.state a.rules.now a.kept.now a.spans.now (sym judged.see-seen.ensures.usable_value ∙ not-true judged.see-seen.result.usable c.if-not-seen.true)
 
 pub returns-then-room_of-lt-LEAST_ROOM : goal.returns-then-room_of-lt-LEAST_ROOM
 returns-then-room_of-lt-LEAST_ROOM c =
@@ -57,5 +57,5 @@ returns c =
     let passed = ending in
     let u = used (sized passed) in
     let a = (start u).args in
-    rw (c.number_of_lem.ensures.0, c.shut_down.ensures, c.listing_told.ensures)
+    rw (c.number_of.ensures.0, c.shut_down.ensures, c.listing_told.ensures)
     (finish_well a.state a.rules.now a.kept.now a.spans.now (good u) (well passed) ending.last-listing.new.1.1.1.0 ending.last-listing.result ending.last-listing.ensures)

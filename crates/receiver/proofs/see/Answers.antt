@@ -21,7 +21,7 @@ module _ (c : tie.Else1) where
 pub returns-then-not-sound : goal.returns-then-not-sound
 returns-then-not-sound c =
     let a = c.args in
-    (unusable a.state a.rules.now a.kept.now (sym c.sound.ensures ∙ not-true c.sound.result c.if-not-sound.true), λ n. absurd (n refl))
+    record { usable_value = unusable a.state a.rules.now a.kept.now (sym c.sound.ensures ∙ not-true c.sound.result c.if-not-sound.true); known = λ n. absurd (n refl) }
 
 pub overflow_sub-held : goal.overflow_sub-held
 overflow_sub-held c = (ranges c).offset
@@ -30,7 +30,7 @@ pub returns-then-held-eq0 : goal.returns-then-held-eq0
 returns-then-held-eq0 c =
     let passed = c in
     let a = (start passed).args in
-    (usable_empty a.state a.rules.now a.kept.now (is_sound passed) c.if-held-eq0.true, λ n. absurd (n refl))
+    record { usable_value = usable_empty a.state a.rules.now a.kept.now (is_sound passed) c.if-held-eq0.true; known = λ n. absurd (n refl) }
 
 pub see_kept-requires : goal.see_kept-requires
 see_kept-requires c = let passed = c in ((ranges passed).blocks, (start passed).requires)
@@ -39,4 +39,4 @@ pub returns : goal.returns
 returns c =
     let passed = c in
     let s = start passed in
-    (c.see_kept.ensures.0 ∙ usable_by s.args.state s.args.rules.now s.args.kept.now s.pre (is_sound passed), c.see_kept.ensures.1.1)
+    record { usable_value = c.see_kept.ensures.usable_value ∙ usable_by s.args.state s.args.rules.now s.args.kept.now s.pre (is_sound passed); known = c.see_kept.ensures.word_value.1 }

@@ -42,4 +42,4 @@ returns c =
     let here : head_with front worded.word_of-word.result flagged.flags_in-flags.result ≡ head_of rules (take a.held kept) =
     head_known rules front worded.word_of-word.result flagged.flags_in-flags.result worded.word_of-word.ensures (λ n. flagged.flags_in-flags.ensures)
     ∙ ap (head_of rules) read in
-    (ap (λ (n : ℕ). eqb n 0) (c.bytes_in.ensures.0 ∙ ap (bytes_in a.held) here), (worded.word_of-word.ensures ∙ ap word_of read, λ n. flagged.flags_in-flags.ensures))
+    record { usable_value = ap (λ (n : ℕ). eqb n 0) (c.bytes_in.ensures.value ∙ ap (bytes_in a.held) here); word_value = (worded.word_of-word.ensures ∙ ap word_of read, λ n. flagged.flags_in-flags.ensures) }

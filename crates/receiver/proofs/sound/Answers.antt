@@ -9,12 +9,12 @@ use Rattle.receiver.proofs.sound.Goals as goal
 
 -- past the test the state is in its bounds
 in-its-bounds : (c : tie.Else1) → in_bounds c.args.state ≡ true
-in-its-bounds c = sym c.in_bounds_lem.ensures ∙ not-false c.in_bounds_lem.result c.if-not-in_bounds.false
+in-its-bounds c = sym c.in_bounds.ensures ∙ not-false c.in_bounds.result c.if-not-in_bounds.false
 
 pub returns-then-not-in_bounds : goal.returns-then-not-in_bounds
 returns-then-not-in_bounds c =
     let a = c.args in
-    unsound a.state a.rules.now (sym c.in_bounds_lem.ensures ∙ not-true c.in_bounds_lem.result c.if-not-in_bounds.true)
+    unsound a.state a.rules.now (sym c.in_bounds.ensures ∙ not-true c.in_bounds.result c.if-not-in_bounds.true)
 
 pub valid_in-requires : goal.valid_in-requires
 valid_in-requires c = (bounds_range c.args.state (in-its-bounds c)).blocks

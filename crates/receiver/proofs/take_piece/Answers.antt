@@ -35,7 +35,7 @@ walk_on-requires c =
     let taken = q.taken in
     let short = s.requires.0.1 in
     let room = s.requires.0.3 in
-    ((q.blocks, omega arith, omega arith, omega arith, s.requires.0.2), s.requires.1)
+    record { blocks_bound = (q.blocks, omega arith, omega arith, omega arith, s.requires.0.2); known = s.requires.1 }
 
 pub returns-then-held-eq0 : goal.returns-then-held-eq0
 returns-then-held-eq0 c =
@@ -53,7 +53,7 @@ after_held-requires c =
     let offset = q.offset in
     let taken = q.taken in
     let room = s.requires.0.3 in
-    ((q.blocks, omega arith, omega arith, omega arith, s.requires.0.1, s.requires.0.2), (s.requires.1, usable_waits s.args.state s.args.rules.now s.args.kept.now s.requires.0.2 s.requires.0.0))
+    record { blocks_bound = (q.blocks, omega arith, omega arith, omega arith, s.requires.0.1, s.requires.0.2); known = (s.requires.1, usable_waits s.args.state s.args.rules.now s.args.kept.now s.requires.0.2 s.requires.0.0) }
 
 pub returns : goal.returns
 returns c =

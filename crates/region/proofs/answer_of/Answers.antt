@@ -18,4 +18,4 @@ returns-then-rows-eq0 c = rw (c.enum_told-in-Going-1.given.1, c.if-rows-eq0.true
 pub returns-else-rows-eq0 : goal.returns-else-rows-eq0
 returns-else-rows-eq0 c =
     let a = c.args in
-    rw c.enum_told-in-Going-1.given.1 (done a.rows a.stop a.bad-type c.if-rows-eq0.false)
+    rw c.enum_told-in-Going-1.given.1 (done a.rows a.stop a.bad_type c.if-rows-eq0.false)

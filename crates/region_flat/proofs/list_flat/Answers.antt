@@ -34,7 +34,7 @@ returns c =
     let judged = passed in
     let a = (start judged).args in
     let good : valid_of a.rules.now ≡ true = sym judged.valid.ensures ∙ not-false judged.valid.result passed.if-not-valid.false in
-    let y = walk.flat_Walk in
+    let y = walk.flat_walk in
     with_fit a.rules.now a.region.now a.limit a.spans.now
     (rw c.listing_at.ensures
     (listed_run a.rules.now a.region.now a.limit a.spans.now (omega arith) good (y.new.1.1.1.1.0, y.result) (rw room.room_of.ensures at y.ensures)))

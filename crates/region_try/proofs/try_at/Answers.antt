@@ -33,7 +33,7 @@ pub returns-then-word-eq-NO_WORD : goal.returns-then-word-eq-NO_WORD
 returns-then-word-eq-NO_WORD c =
     let ending = c in
     let a = ending.args in (
-      rw (c.stop_ended.ensures, ending.Ending-of.ensures)
+      rw (c.stop_ended.ensures, ending.ending_of.ensures)
           (finds_nothing a.room a.rows a.spans.now (ended_stops a.level a.parent a.offset a.bytes.now a.word a.flags (omega arith))),
       tt,
     )
@@ -44,37 +44,37 @@ returns-then-size-le-LACKING c =
     let a = (sized s).args in
     let there : a.word ≡ no_word → ⊥ = λ e. omega arith in
     let small : size_of a.bytes.now a.word a.flags ≤ lacking = omega arith in (
-      rw (c.sizeless.ensures, s.type_size.ensures.0)
+      rw (c.sizeless.ensures, s.size_of-size.ensures.value)
           (finds_sizeless a.room a.rows a.spans.now a.word (size_of a.bytes.now a.word a.flags) small
           (bad_type_stops a.level a.parent a.offset a.bytes.now a.word a.flags there)
           (bad_header_stops a.level a.parent a.offset a.bytes.now a.word a.flags there)),
-      rw c.sizeless.ensures (sizeless_bounds a.word s.type_size.result),
+      rw c.sizeless.ensures (sizeless_bounds a.word s.size_of-size.result),
     )
 
 pub declared_of-declared-requires : goal.declared_of-declared-requires
-declared_of-declared-requires c = (c.type_size.ensures.1 (omega arith)).sizes
+declared_of-declared-requires c = (c.size_of-size.ensures.measured (omega arith)).sizes
 
 pub returns-then-declared-eq0 : goal.returns-then-declared-eq0
 returns-then-declared-eq0 c =
     let a = (declared c).args in
     let there : lacking < size_of a.bytes.now a.word a.flags = omega arith in
     let none : declared_of a.bytes.now a.flags ≡ 0 = omega arith in
-    (finds_nothing a.room a.rows a.spans.now (empty_stops a.level a.parent a.offset a.bytes.now a.word a.flags (λ e. omega arith) there none), tt)
+    record { result_after = finds_nothing a.room a.rows a.spans.now (empty_stops a.level a.parent a.offset a.bytes.now a.word a.flags (λ e. omega arith) there none); row_bounds = tt }
 
 pub returns-then-room-rows : goal.returns-then-room-rows
 returns-then-room-rows c =
     let a = (declared c).args in
-    (finds_no_room a.room a.rows a.spans.now (is_record c) (omega arith), tt)
+    record { result_after = finds_no_room a.room a.rows a.spans.now (is_record c) (omega arith); row_bounds = tt }
 
 pub summary_of-summary-requires : goal.summary_of-summary-requires
 summary_of-summary-requires c =
     let declared-of = c in
-    (declared-of.declared_of-declared.ensures.0, declared-of.type_size.ensures.0, omega arith)
+    (declared-of.declared_of-declared.ensures.0, declared-of.size_of-size.ensures.value, omega arith)
 
 pub span_of-span-requires : goal.span_of-span-requires
 span_of-span-requires c =
     let declared-of = c.declared_of-declared in
-    let type_size = c.type_size in
+    let type_size = c.size_of-size in
     let said = c.summary_of-summary.ensures in
     let most : type_size.result ≤ 536 = (type_size.ensures.1 (omega arith)).most in
     (omega arith, rw (said, ← declared-of.ensures.0) declared-of.ensures.1, rw (said, ← type_size.ensures.0) most)
@@ -87,9 +87,9 @@ returns c =
     let here = said in
     let d = here in
     let a = (declared d).args in
-    let type_size = d.type_size in
+    let type_size = d.size_of-size in
     let bounds = type_size.ensures.1 (omega arith) in (
-      rw (put.put.ensures, c.is_box.ensures, row.Span-of.ensures, said.summary_of-summary.ensures, type_size.ensures.0, d.declared_of-declared.ensures.0)
+      rw (put.put.ensures, c.is_box.ensures, row.span_of-span.ensures, said.summary_of-summary.ensures, type_size.ensures.0, d.declared_of-declared.ensures.0)
           (finds_row a.room a.rows a.spans.now (is_record here) (omega arith)),
       (omega (arith, here.if-declared-eq0.false), d.declared_of-declared.ensures.1, omega (arith, bounds.least), bounds.most),
     )

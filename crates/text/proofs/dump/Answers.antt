@@ -7,4 +7,4 @@ use Rattle.text.proofs.dump.Goals as goal
 
 pub returns : goal.returns
 unfolding dump_text empty_table
-returns c = listing_at_start c.listing_of-listing.ensures.0 c.put_listing.ensures (omega arith)
+returns c = listing_at_start c.listing_of-listing.ensures.result_after c.put_listing.ensures (omega arith)

@@ -8,4 +8,4 @@ use Rattle.text.proofs.dump_cper.Goals as goal
 
 pub returns : goal.returns
 unfolding cper_dump_text empty_table
-returns c = listing_at_start c.list_cper-listing.ensures.0 c.put_listing.ensures (omega arith)
+returns c = listing_at_start c.list_cper-listing.ensures.result_after c.put_listing.ensures (omega arith)

@@ -20,11 +20,11 @@ pub returns-then-region-gt-MOST_INPUT : goal.returns-then-region-gt-MOST_INPUT
 unfolding listing
 returns-then-region-gt-MOST_INPUT c =
     let a = c.args in
-    (rw (c.refused.ensures, lt-ltb most_input (length a.region.now) (omega arith)), rw c.refused.ensures (omega arith))
+    record { result_after = rw (c.refused.ensures, lt-ltb most_input (length a.region.now) (omega arith)); width_in_bounds = rw c.refused.ensures (omega arith) }
 
 pub returns : goal.returns
 returns c =
     let listed = c in
     let tested = listed in
     let a = tested.args in
-    (work a.region.now a.spans.now (omega (arith, tested.if-region-gt-MOST_INPUT.false)) listed.list.ensures.0, listed.list.ensures.1)
+    record { result_after = work a.region.now a.spans.now (omega (arith, tested.if-region-gt-MOST_INPUT.false)) listed.list.ensures.result_after; width_in_bounds = listed.list.ensures.width_in_bounds }

@@ -14,5 +14,5 @@ returns c =
     let text = whole in
     let tries = text in
     let rows = tries in
-    let number = rw numbered.number_of_lem.ensures.0 at answer.put_count-number.ensures in
+    let number = rw numbered.number_of.ensures.0 at answer.put_count-number.ensures in
     then (then (then (then (then rows.put_count-rows.ensures tries.put_count-tries.ensures) text.put_text-text.ensures) whole.put_whole-whole.ensures) number) end.put_text.ensures

@@ -12,4 +12,4 @@ returns-then-whole c =
 pub returns : goal.returns
 returns c =
     let put = c in
-    rw put.if-whole.false (fewer 3 put.put-text2.ensures (omega arith))
+    rw put.if-whole.false (fewer 3 put.put_text-2.ensures (omega arith))

@@ -61,4 +61,4 @@ returns c =
     let test = end in
     let taken = test in
     let a = taken.args in
-    encoded a.rules.now a.header a.out.now taken.header_in-taken.ensures (not-false _ test.if-not-taken.false) end.encode-end.ensures c.number_of_lem.ensures
+    encoded a.rules.now a.header a.out.now taken.header_in-taken.ensures (not-false _ test.if-not-taken.false) end.encode-end.ensures c.number_of.ensures

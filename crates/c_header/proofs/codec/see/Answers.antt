@@ -15,4 +15,4 @@ seen j told number = (told, record { answer = number; word = j.word; flags = j.f
 pub returns : goal.returns
 returns c =
     let judge = c.judge-judged in
-    ap₂ (seen judge.result) c.tell.ensures c.number_of_lem.ensures ∙ ap seen_of judge.ensures
+    ap₂ (seen judge.result) c.tell.ensures c.number_of.ensures ∙ ap seen_of judge.ensures

@@ -10,10 +10,10 @@ returns c =
     let id = text in
     let type = id in
     rw (
-      c.u32-at2.ensures,
-      c.u32-at3.ensures,
+      c.u32_at-2.ensures,
+      c.u32_at-3.ensures,
       c.u16_at.ensures,
-      c.u32-at4.ensures,
+      c.u32_at-4.ensures,
       type.bytes16_at-section_type.ensures,
       id.present16-fru_id.ensures,
       text.severity_of-section_severity.ensures,

@@ -35,14 +35,14 @@ pub returns-then-not-starts_with : goal.returns-then-not-starts_with
 returns-then-not-starts_with c =
     let tested = c in
     let a = tested.args in
-    other-type a.cper.now a.record-id.now a.section (typed tested ∙ not-true tested.starts_with.result c.if-not-starts_with.true)
+    other-type a.cper.now a.record_id.now a.section (typed tested ∙ not-true tested.starts_with.result c.if-not-starts_with.true)
 
 pub returns-then-section-lt-SECTION_HEADER_SIZE : goal.returns-then-section-lt-SECTION_HEADER_SIZE
 returns-then-section-lt-SECTION_HEADER_SIZE c =
     let passed = c in
     let tested = passed in
     let a = tested.args in
-    no_header a.cper.now a.record-id.now a.section (typed tested ∙ not-false tested.starts_with.result passed.if-not-starts_with.false) (omega arith)
+    no_header a.cper.now a.record_id.now a.section (typed tested ∙ not-false tested.starts_with.result passed.if-not-starts_with.false) (omega arith)
 
 pub returns : goal.returns
 returns c =
@@ -51,6 +51,6 @@ returns c =
     let tested = passed in
     let a = tested.args in
     let size : a.section.offset + a.section.size - a.section.offset ≡ a.section.size = omega arith in
-    c.starts-with2.ensures
-    ∙ ap (λ (n : ℕ). starts_with a.record-id.now (drop identifier_at (take n (drop a.section.offset a.cper.now)))) size
-    ∙ by-identifier a.cper.now a.record-id.now a.section (typed tested ∙ not-false tested.starts_with.result passed.if-not-starts_with.false) (omega arith)
+    c.starts_with-2.ensures
+    ∙ ap (λ (n : ℕ). starts_with a.record_id.now (drop identifier_at (take n (drop a.section.offset a.cper.now)))) size
+    ∙ by-identifier a.cper.now a.record_id.now a.section (typed tested ∙ not-false tested.starts_with.result passed.if-not-starts_with.false) (omega arith)

@@ -5,4 +5,4 @@ use Rattle.crashlog.specs.Containers.{normalised_out}
 use Rattle.crashlog.proofs.containers.crashlog_normalise.Goals as goal
 
 pub returns : goal.returns
-returns c = rw c.number_of_lem.ensures (ap normalised_out c.normalise-normalised.ensures)
+returns c = rw c.number_of.ensures (ap normalised_out c.normalise-normalised.ensures)

@@ -5,4 +5,4 @@ use Rattle.crashlog.specs.Containers.{section_out}
 use Rattle.crashlog.proofs.containers.crashlog_section.Goals as goal
 
 pub returns : goal.returns
-returns c = rw c.number_of_lem.ensures (ap section_out c.section_at-place.ensures)
+returns c = rw c.number_of.ensures (ap section_out c.section_at-place.ensures)

@@ -5,4 +5,4 @@ use Rattle.crashlog.specs.Containers.{sections_out}
 use Rattle.crashlog.proofs.containers.crashlog_sections.Goals as goal
 
 pub returns : goal.returns
-returns c = rw c.number_of_lem.ensures (ap sections_out c.sections-listed.ensures)
+returns c = rw c.number_of.ensures (ap sections_out c.sections-listed.ensures)

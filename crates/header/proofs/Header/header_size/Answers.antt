@@ -5,4 +5,4 @@ use Rattle.header.specs.Access.{header_size}
 use Rattle.header.proofs.Header.header_size.Goals as goal
 
 pub returns-in-Type6 : goal.returns-in-Type6
-returns-in-Type6 c = sym (ap header_size c.header-type.given.1)
+returns-in-Type6 c = sym (ap header_size c.header_type.given.1)

@@ -32,5 +32,5 @@ returns c =
     let half = fields in
     let start = half in
     let a = start.args in
-    whole a.word a.die-id a.socket-id a.count a.complete a.size a.stamp a.words a.out.now (omega (arith, start.requires.2, start.well-formed))
+    whole a.word a.die_id a.socket_id a.count a.complete a.size a.stamp a.words a.out.now (omega (arith, start.requires.2, start.well-formed))
     half.count_half-half.ensures fields.put_counted.ensures words.put_words.ensures

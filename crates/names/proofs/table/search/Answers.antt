@@ -61,7 +61,7 @@ returns-then-entry-record_type c =
     let turn = c in
     let place = turn.loop-place.place in
     let here = looked place turn.entries-table.ensures (omega arith) in
-    hit turn.args.record-type place (omega arith) here turn.loop-place.invariant c.if-entry-record_type.true
+    hit turn.args.record_type place (omega arith) here turn.loop-place.invariant c.if-entry-record_type.true
 
 pub loop-place-preserved : goal.loop-place-preserved
 unfolding named
@@ -69,10 +69,10 @@ loop-place-preserved c =
     let turn = c in
     let place = turn.loop-place.place in
     let here = looked place turn.entries-table.ensures (omega arith) in
-    miss turn.args.record-type place (omega arith) here turn.loop-place.invariant c.if-entry-record_type.false
+    miss turn.args.record_type place (omega arith) here turn.loop-place.invariant c.if-entry-record_type.false
 
 pub returns : goal.returns
 unfolding named padded
 returns c =
     let turn = c in
-    ap padded (sym (ended turn.args.record-type turn.loop-place.place (omega arith) turn.loop-place.invariant))
+    ap padded (sym (ended turn.args.record_type turn.loop-place.place (omega arith) turn.loop-place.invariant))

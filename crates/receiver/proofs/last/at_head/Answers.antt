@@ -45,5 +45,5 @@ returns-else-summary-eq0 c =
     let told = passed in
     let s = told in
     let a = s.args in
-    rw (c.listing_at.ensures, put.put.ensures, spanned.Span-of.ensures)
+    rw (c.listing_at.ensures, put.put.ensures, spanned.span_of.ensures)
     (sym (end_short a.offset a.held a.rows a.whole a.spans.now told.head-in-Record-1.given.0.0 told.head-in-Record-1.given.1 passed.if-summary-eq0.false s.requires.1))

@@ -90,7 +90,7 @@ at_head-requires c =
     let offset = q.offset in
     let taken = q.taken in
     let room = (start judged).requires.2 in
-    (judged.judge_with-head.ensures.1, none_in judged, omega arith, omega arith, omega arith)
+    (judged.judge_with-head.ensures.head_bounds, none_in judged, omega arith, omega arith, omega arith)
 
 pub returns : goal.returns
 returns c =

@@ -8,10 +8,10 @@ use Rattle.receiver.proofs.pass.bytes_in.Goals as goal
 pub returns-then-left-declared : goal.returns-then-left-declared
 returns-then-left-declared c =
     let a = c.args in
-    (none_short a.s.now a.word a.flags a.left (rw c.declared_in-declared.ensures.0 at c.if-left-declared.true), omega arith)
+    record { value = none_short a.s.now a.word a.flags a.left (rw c.declared_in-declared.ensures.0 at c.if-left-declared.true); upper_bound = omega arith }
 
 pub returns : goal.returns
 returns c =
     let a = c.args in
     let declared-in = c.declared_in-declared in
-    (declared-in.ensures.0 ∙ all_in_lem a.s.now a.word a.flags a.left (rw declared-in.ensures.0 at c.if-left-declared.false), declared-in.ensures.1)
+    record { value = declared-in.ensures.0 ∙ all_in_lem a.s.now a.word a.flags a.left (rw declared-in.ensures.0 at c.if-left-declared.false); upper_bound = declared-in.ensures.1 }

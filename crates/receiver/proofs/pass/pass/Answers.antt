@@ -96,7 +96,7 @@ pub loop-at-init : goal.loop-at-init
 loop-at-init c =
     let a = c.args in
     record {
-      flags = c.requires.1;
+      flags = c.requires.known;
       same = refl;
       within = omega arith;
       counted = omega arith;
@@ -115,8 +115,8 @@ put_record-keeps-requires c =
     let within = inv.within in
     let placed = (start f).requires.0.1 in
     let room = (start f).requires.0.2 in
-    let sized = f.type_size.ensures in
-    (sized, (omega arith, f.bytes_in-declared.ensures.0, f.bytes_in-declared.ensures.1, omega arith, omega arith))
+    let sized = f.size_of-size.ensures in
+    record { size_value = sized; declared_nonzero = (omega arith, f.bytes_in-declared.ensures.value, f.bytes_in-declared.ensures.upper_bound, omega arith, omega arith) }
 
 pub returns-then-declared-eq0 : goal.returns-then-declared-eq0
 returns-then-declared-eq0 c =
@@ -156,7 +156,7 @@ loop-at-preserved c =
       same = put.put_record-keeps.auto.1.1.1.1.1.1.1.1.0 ∙ inv.same;
       within = omega arith;
       counted = omega arith;
-      ends = inv.ends ∙ goes_on f n ∙ rw (← put.put_record-keeps.ensures.0, ← put.put_record-keeps.ensures.1, ← d);
+      ends = inv.ends ∙ goes_on f n ∙ rw (← put.put_record-keeps.ensures.spans_after, ← put.put_record-keeps.ensures.value, ← d);
     }
 
 pub returns : goal.returns

@@ -51,7 +51,7 @@ returns c =
     let summary = span in
     let s = summary in
     let a = s.args in
-    let row = span.Span-of.ensures ∙ ap (span_of 0 top a.offset a.left) summary.summary_of-summary.ensures in (
+    let row = span.span_of-span.ensures ∙ ap (span_of 0 top a.offset a.left) summary.summary_of-summary.ensures in (
       put.put.ensures ∙ ap (with_span a.spans.now a.rows) row,
       whole_by a.s.now a.word a.flags a.offset a.left a.declared a.size c.is_box.result c.is_box.ensures (declares s) s.requires.0.0 (fits s),
     )

@@ -139,7 +139,7 @@ returns-then-declared-eq0 c =
     let f = c in
     let t = taking f in
     let a = (start t).args in
-    ap (λ (bs : List ℕ). (bs, a.spans.now, a.from)) t.take_in-len.ensures.0
+    ap (λ (bs : List ℕ). (bs, a.spans.now, a.from)) t.take_in-len.ensures.kept_after
     ∙ none_then (rules t) (held t) (kept t) (piece t) (long t) a.from.offset a.from.rows a.from.whole a.spans.now (none_here f c.if-declared-eq0.true)
 
 pub walk_joined-requires : goal.walk_joined-requires
@@ -147,7 +147,7 @@ walk_joined-requires c =
     let small = c in
     let t = taking (read small) in
     let fits_all = (start t).pre.0 in
-    ((fits_all.0, omega arith, fits_all.2, fits_all.3, few small, fits_all.4, taken-long t), (flagged (read small)).flags_of-flags.ensures)
+    record { blocks_bound = (fits_all.0, omega arith, fits_all.2, fits_all.3, few small, fits_all.4, taken-long t); known = (flagged (read small)).flags_of-flags.ensures }
 
 pub returns-then-declared-held : goal.returns-then-declared-held
 returns-then-declared-held c =
@@ -155,11 +155,11 @@ returns-then-declared-held c =
     let t = taking (read small) in
     let a = (start t).args in
     let all : take (held t) (taken t) ++ piece t ≡ came t =
-    ap (λ (bs : List ℕ). take (held t) bs ++ piece t) t.take_in-len.ensures.0
+    ap (λ (bs : List ℕ). take (held t) bs ++ piece t) t.take_in-len.ensures.kept_after
     ∙ ap (λ (bs : List ℕ). bs ++ piece t) (taken_stays (held t) (kept t) (piece t) (long t) (few small))
     ∙ sym (held_kept (rules t) (held t) (kept t) (piece t) (long t) (few small)) in
     c.walk_joined.ensures
-    ∙ ap₂ (λ (bs ks : List ℕ). moved_of (rules t) bs a.from.offset a.from.rows a.from.whole ks a.spans.now) all t.take_in-len.ensures.0
+    ∙ ap₂ (λ (bs ks : List ℕ). moved_of (rules t) bs a.from.offset a.from.rows a.from.whole ks a.spans.now) all t.take_in-len.ensures.kept_after
 
 pub slice_bounds-put_record-end-2 : goal.slice_bounds-put_record-end-2
 slice_bounds-put_record-end-2 c = front_length (taking c)
@@ -169,7 +169,7 @@ put_record-keeps-requires c =
     let f = c in
     let fits_all = (start (taking f)).pre.0 in
     let n = c.if-declared-eq0.false in
-    (f.type_size.ensures, (omega arith, f.bytes_in-declared.ensures.0, f.bytes_in-declared.ensures.1, omega arith, omega arith))
+    record { size_value = f.size_of-size.ensures; declared_nonzero = (omega arith, f.bytes_in-declared.ensures.value, f.bytes_in-declared.ensures.upper_bound, omega arith, omega arith) }
 
 pub overflow_add-next-2 : goal.overflow_add-next-2
 overflow_add-next-2 c =
@@ -221,5 +221,5 @@ returns c =
     ∙ record_then (rules t) (held t) (kept t) (piece t) (long t) from.offset from.rows from.whole a.spans.now (summary f n) (is f n) (some f n)
     (let e = declares f n in let w = (within put).0 in omega arith) (fits f n) (taken t)
     (take (length (piece t) - (d - held t)) (drop (d - held t) (piece t))) put.put_record-keeps.new.1.1.1.1.1.1.1.1.0 d put.put_record-keeps.result
-    own (declares f n) put.put_record-keeps.ensures.0 put.put_record-keeps.ensures.1
-    ∙ ap (λ (ks : List ℕ). moved_of (rules t) (came t) from.offset from.rows from.whole ks a.spans.now) t.take_in-len.ensures.0
+    own (declares f n) put.put_record-keeps.ensures.spans_after put.put_record-keeps.ensures.value
+    ∙ ap (λ (ks : List ℕ). moved_of (rules t) (came t) from.offset from.rows from.whole ks a.spans.now) t.take_in-len.ensures.kept_after

@@ -57,7 +57,7 @@ walk_on-requires c =
     let fits = s.pre.0 in
     let few = fits.4 in
     let short = fits.5 in
-    (rw (joined_length joined) (fits.0, omega arith, omega arith, omega arith, fits.6), s.pre.1)
+    record { blocks_bound = rw (joined_length joined) (fits.0, omega arith, omega arith, omega arith, fits.6); known = s.pre.1 }
 
 pub returns : goal.returns
 returns c =

@@ -35,8 +35,8 @@ module _ (c : tie.Else2) where
   some : 0 < declared_by (head_with bytes word flags)
   some = let e = called.declared_in-declared.ensures.0 in omega (arith, c.if-declared-eq0.false)
 
-  sized : lacking < called.type_size.result
-  sized = rw called.type_size.ensures.0 (header_there bytes word flags some)
+  sized : lacking < called.size_of-size.result
+  sized = rw called.size_of-size.ensures.0 (header_there bytes word flags some)
 
   says : called.declared_in-declared.result ≡ declared_of bytes flags
   says = called.declared_in-declared.ensures.0 ∙ sym (declared_record bytes word flags (word_there bytes word flags some) (header_there bytes word flags some))
@@ -45,7 +45,7 @@ pub returns-then-word-eq-NO_WORD : goal.returns-then-word-eq-NO_WORD
 returns-then-word-eq-NO_WORD c =
     let ended = c in
     let a = ended.args in (
-      rw (c.stop_ended.ensures, ended.Ending-of.ensures)
+      rw (c.stop_ended.ensures, ended.ending_of.ensures)
           (finds_nothing a.room a.rows a.spans.now (ended_stops a.level a.parent a.offset a.bytes.now a.memory.word a.memory.flags ended.if-word-eq-NO_WORD.true)),
       tt,
     )
@@ -53,7 +53,7 @@ returns-then-word-eq-NO_WORD c =
 pub returns-then-declared-eq0 : goal.returns-then-declared-eq0
 returns-then-declared-eq0 c =
     let d = c in
-    let type_size = d.type_size in
+    let type_size = d.size_of-size in
     let a = (start d).args in (
       rw c.nothing_at.ensures
           (finds_none a.level a.parent a.offset a.bytes.now a.memory.word a.memory.flags type_size.result d.if-word-eq-NO_WORD.false type_size.ensures.0
@@ -65,17 +65,17 @@ pub returns-then-room-rows : goal.returns-then-room-rows
 returns-then-room-rows c =
     let r = c in
     let a = (begun r).args in
-    (finds_no_room a.room a.rows a.spans.now (is_record a.level a.parent a.offset (bytes r) (word r) (flags r) (some r)) (omega arith), tt)
+    record { result_after = finds_no_room a.room a.rows a.spans.now (is_record a.level a.parent a.offset (bytes r) (word r) (flags r) (some r)) (omega arith); row_bounds = tt }
 
 pub summary_of-summary-requires : goal.summary_of-summary-requires
-summary_of-summary-requires c = let r = c in (says r, (called r).type_size.ensures.0, sized r)
+summary_of-summary-requires c = let r = c in (says r, (called r).size_of-size.ensures.value, sized r)
 
 pub span_of-span-requires : goal.span_of-span-requires
 span_of-span-requires c =
     let r = c in
     let d = called r in
     let said = c.summary_of-summary.ensures in
-    (omega arith, rw (said, ← says r) d.declared_in-declared.ensures.1, rw (said, ← d.type_size.ensures.0) (d.type_size.ensures.1 (sized r)).most)
+    (omega arith, rw (said, ← says r) d.declared_in-declared.ensures.1, rw (said, ← d.size_of-size.ensures.value) (d.size_of-size.ensures.measured (sized r)).most)
 
 pub returns : goal.returns
 returns c =
@@ -85,9 +85,9 @@ returns c =
     let r = said in
     let d = called r in
     let a = (begun r).args in
-    let type_size = d.type_size in
+    let type_size = d.size_of-size in
     let bounds = type_size.ensures.1 (sized r) in (
       finds_record a.level a.parent a.offset (bytes r) (word r) (flags r) (some r) a.room a.rows a.spans.now (omega arith)
-          put.put.ensures row.Span-of.ensures said.summary_of-summary.ensures (says r) type_size.ensures.0 c.is_box.ensures,
+          put.put.ensures row.span_of-span.ensures said.summary_of-summary.ensures (says r) type_size.ensures.0 c.is_box.ensures,
       (omega (arith, r.if-declared-eq0.false), d.declared_in-declared.ensures.1, omega (arith, bounds.least), bounds.most),
     )

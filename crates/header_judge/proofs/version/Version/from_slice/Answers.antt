@@ -11,7 +11,7 @@ pub returns-then-word-eq-NO_WORD : goal.returns-then-word-eq-NO_WORD
 returns-then-word-eq-NO_WORD c =
     let worded = c in
     let args = worded.args in
-    ap Ended c.Ending-of.ensures ∙ start_ended args.s.now (sym worded.word_of-word.ensures ∙ c.if-word-eq-NO_WORD.true)
+    ap Ended c.ending_of.ensures ∙ start_ended args.s.now (sym worded.word_of-word.ensures ∙ c.if-word-eq-NO_WORD.true)
 
 pub returns : goal.returns
 returns c =
