@@ -101,6 +101,25 @@ module _ (bs : List ℕ) (word flags left : ℕ) where
     pub read_bytes : bytes_in left head ≡ declared_of bs flags
     read_bytes = sym (says ∙ all_in_lem fits)
 
+-- what a head says of its record, where bytes of it are all in
+pub record Read (bs : List ℕ) (word flags left declared : ℕ) (head : Head) : Type 0 where
+  pub is : head ≡ Record (summary_of bs word flags)
+  pub declares : declared ≡ (summary_of bs word flags).declared
+  pub some : 0 < (summary_of bs word flags).declared
+  pub fits : (summary_of bs word flags).declared ≤ left
+
+pub read_in : (bs : List ℕ) (word flags left declared : ℕ) {head : Head} → head_with bs word flags ≡ head → declared ≡ bytes_in left (head_with bs word flags)
+    → (declared ≡ 0 → ⊥) → Read bs word flags left declared head
+read_in bs word flags left declared e d n =
+    let found : 0 < bytes_in left (head_with bs word flags) = rw (← d) (omega arith) in
+    let declares : declared ≡ (summary_of bs word flags).declared = d ∙ read_bytes bs word flags left found in
+    record {
+      is = sym e ∙ read_record bs word flags left found;
+      declares = declares;
+      some = rw (← declares) (omega arith);
+      fits = bytes_there bs word flags left found;
+    }
+
 -- a record that is all in leaves the listing whole but where it is a Box whose header exceeds it
 pub keeps_whole_lem : (offset left : ℕ) (s : Summary) → s.declared ≤ left
     → not (is_box s.word s.flags && ltb s.declared s.size) ≡ keeps_whole (hit (span_of 0 top offset left s))
