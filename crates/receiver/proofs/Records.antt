@@ -53,6 +53,15 @@ full left (Record s) h = by (leb s.declared left) refl h
     by true e h = record { summary = s; is = refl; some = h; fits = leb-true s.declared left e; bytes = rw e }
     by false e h = absurd (omega arith)
 
+-- so many bytes have come
+pub bytes_within : (left : ℕ) (head : Head) → bytes_in left head ≤ left
+unfolding bytes_in
+bytes_within left head = by (leb (declared_by head) left) refl
+  where
+    by : (b : Bool) → leb (declared_by head) left ≡ b → cond b (declared_by head) 0 ≤ left
+    by true e = leb-true (declared_by head) left e
+    by false e = omega arith
+
 -- a record that is not all in lacks bytes
 pub lacks_bytes : (left : ℕ) (s : Summary) → 0 < s.declared → bytes_in left (Record s) ≡ 0 → left < s.declared
 unfolding bytes_in declared_by
