@@ -2,7 +2,7 @@
 -- The loop's invariant: writing the sections still to come from here ends as writing all from the start. Assumes nothing.
 use mathlib.Core.Path.{◌≡◌, refl, sym, ap, ap₂, ◌∙◌}
 use mathlib.Core.List.{List}
-use Prim.Native.Nat.{ℕ, ◌+◌, ◌-◌, ◌≤◌, ◌<◌}
+use Prim.Native.Nat.{ℕ, ◌+◌}
 use native.Mathlib.Nat.{zero-add}
 use native.Mathlib.Omega.{arith}
 use lib.ListN.{length}
@@ -10,7 +10,7 @@ use Rattle.cper_sections.specs.Sections.{descriptor_at, kept_of}
 use Rattle.cper_sections.specs.Steps.{kept_in, Found}
 use Rattle.cper_sections.specs.declared.kept.Section.{Section}
 use Rattle.cper_sections.proofs.KeptFrom.{kept_start}
-use Rattle.cper_normal.specs.Normal.{body_sizes, bodies_at, size_of}
+use Rattle.cper_normal.specs.Normal.{body_sizes, bodies_at}
 use Rattle.cper_normal.specs.Steps.{pack}
 use Rattle.cper_normal.proofs.Packed.{pack_section}
 use Rattle.cper_normal.proofs.write_sections.Goals as goal
@@ -70,5 +70,5 @@ loop-section-preserved c =
       omega arith,
       omega arith,
       pack_section _ l.out l.row l.to _ _ c.write_section.ensures
-      ∙ packs c.args.cper.now c.args.out.now l.out l.row l.to l.index c.section_count-count.result l.invariant.6 f.rest,
+          ∙ packs c.args.cper.now c.args.out.now l.out l.row l.to l.index c.section_count-count.result l.invariant.6 f.rest,
     )

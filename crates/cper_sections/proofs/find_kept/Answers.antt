@@ -2,7 +2,7 @@
 -- The loop's invariant: the row still to pass, among the sections still to come, is the row asked for among all. Assumes nothing.
 use mathlib.Core.Path.{◌≡◌, sym, ap, ◌∙◌}
 use mathlib.Core.List.{List, ◌∷◌}
-use Prim.Native.Nat.{ℕ, suc, ◌-◌, ◌≤◌, ◌<◌}
+use Prim.Native.Nat.{ℕ, suc, ◌-◌}
 use native.Mathlib.Omega.{arith}
 use Rattle.cper_sections.specs.Sections.{kept_of, located, place_in}
 use Rattle.cper_sections.specs.Steps.{kept_in, Found}
@@ -51,5 +51,5 @@ loop-section-preserved c =
       omega arith,
       omega arith,
       later _ _ l.left c.if-left-eq0.false
-      ∙ left_in c.args.cper.now c.args.row l.index c.section_count-count.result l.left l.invariant.3 f.rest,
+          ∙ left_in c.args.cper.now c.args.row l.index c.section_count-count.result l.left l.invariant.3 f.rest,
     )

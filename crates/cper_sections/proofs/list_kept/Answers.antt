@@ -2,10 +2,9 @@
 -- The loop's invariant: filling the table from here with the sections still to come ends as filling it from its start with all. Assumes nothing.
 use mathlib.Core.Path.{◌≡◌, refl, sym, ap, ◌∙◌}
 use mathlib.Core.List.{List}
-use Prim.Native.Nat.{ℕ, ◌-◌, ◌≤◌, ◌<◌}
+use Prim.Native.Nat.{ℕ}
 use native.Mathlib.Omega.{arith}
-use lib.ListN.{length}
-use Rattle.cper_sections.specs.Sections.{told, kept_of, listed_in}
+use Rattle.cper_sections.specs.Sections.{kept_of, listed_in}
 use Rattle.cper_sections.specs.Steps.{kept_in, Found}
 use Rattle.cper_sections.specs.declared.kept.Section.{Section}
 use Rattle.cper_sections.proofs.KeptFrom.{kept_start}
@@ -43,5 +42,5 @@ loop-section-preserved c =
       omega arith,
       c.put_row.auto.table ∙ l.invariant.3,
       fill_row l.table l.rows _ _ (omega arith) c.put_row.ensures
-      ∙ filled c.args.cper.now c.args.table.now l.table l.rows l.index c.section_count-count.result l.invariant.4 f.rest,
+          ∙ filled c.args.cper.now c.args.table.now l.table l.rows l.index c.section_count-count.result l.invariant.4 f.rest,
     )

@@ -1,12 +1,8 @@
 -- `section` returns the part of the input that `section_at` tells.
 -- The place lies in the input. Assumes nothing.
-use mathlib.Core.Path.{◌≡◌, ap, ◌∙◌}
-use mathlib.Core.List.{List}
-use Prim.Native.Nat.{ℕ, ◌+◌, ◌-◌, ◌≤◌}
+use Prim.Native.Nat.{◌+◌, ◌≤◌}
 use native.Mathlib.Omega.{arith}
-use lib.ListN.{length, take, drop}
-use Rattle.cper_sections.specs.Sections.{part_at}
-use Rattle.cper_sections.specs.declared.Located.{Located}
+use lib.ListN.{length}
 use Rattle.cper_sections.proofs.KeptFrom.{place_within}
 use Rattle.cper_sections.proofs.section.Goals as goal
 

@@ -1,6 +1,6 @@
 -- `next_kept` gives the first kept section from an index on.
 -- The loop's invariant: from the index on, the same sections are kept as from the first. Assumes nothing.
-use mathlib.Core.Path.{◌≡◌, refl, sym, ◌∙◌}
+use mathlib.Core.Path.{◌≡◌, sym, ◌∙◌}
 use mathlib.Core.List.{List}
 use mathlib.Core.Bool.{true, false}
 use Prim.Native.Nat.{ℕ, ◌≤◌, ◌<◌}
