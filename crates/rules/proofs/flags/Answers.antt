@@ -1,6 +1,6 @@
 -- `flags` gives the union over the rows that apply.
 -- The loop's invariant: the flags so far, with those of the rows still to come, are the whole union. Assumes nothing.
-use mathlib.Core.Path.{◌≡◌, sym, ◌∙◌}
+use mathlib.Core.Path.{◌≡◌, refl, sym, ◌∙◌}
 use Prim.Native.Nat.{◌+◌, ◌-◌, ◌≤◌}
 use native.Mathlib.Omega.{arith}
 use lib.ListN.{length, drop}
@@ -11,7 +11,7 @@ use Rattle.rules.proofs.flags.Goals as goal
 
 pub loop-at-init : goal.loop-at-init
 unfolding flags_of
-loop-at-init c = search rules
+loop-at-init c = (omega arith, refl)
 
 pub loop-at-preserved : goal.loop-at-preserved
 loop-at-preserved c =
