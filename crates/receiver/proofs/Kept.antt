@@ -5,7 +5,7 @@ use mathlib.Core.List.{List, ◌++◌, append_assoc}
 use mathlib.Core.Logic.{⊎_elim}
 use Prim.Native.Nat.{ℕ, ◌+◌, ◌-◌, min, ◌≤◌, ◌<◌}
 use native.Mathlib.Omega.{arith}
-use lib.ListN.{length, take, drop, length-drop}
+use lib.ListN.{length, take, drop, length-take, length-drop}
 use lib.Seq.{length-take-le, take_all, take-length, take-append-add, take-append_seam}
 use borrow.Rule.Slice.PartMut.{put_mid}
 use Rattle.basics.proofs.Orders.{le_or_lt}
@@ -35,26 +35,22 @@ front_length held len kept is long = sym (length-take-le len kept (omega arith))
 
 -- what is copied to the start of the kept bytes from a place on: as many bytes as there are, at most 536
 pub copied : (s kept last : List ℕ) (at n : ℕ) → at ≤ length s → n ≡ min (length s - at) most_kept
-    → (let part = take (at + n - at) (drop at s) in last ≡ take (length part) part ++ drop (length part) kept)
-    → last ≡ kept_of (drop at s) kept
+    → last ≡ take (at + n - at) (drop at s)
+    → last ++ drop n kept ≡ kept_of (drop at s) kept
 copied s kept last at n h is e =
-    let taken : at + n - at ≡ min (length (drop at s)) most_kept = rw (length-drop at s) (omega arith) in
-    let part : take (at + n - at) (drop at s) ≡ take most_kept (drop at s) = rw taken (take-least most_kept (drop at s)) in
-    e ∙ rw (part, take-length (take most_kept (drop at s)))
+    let most : at + n - at ≡ min (length (drop at s)) most_kept = rw (length-drop at s) (omega arith) in
+    let part : last ≡ take most_kept (drop at s) = e ∙ ap (λ (k : ℕ). take k (drop at s)) most ∙ take-least most_kept (drop at s) in
+    let counted : n ≡ length (take most_kept (drop at s)) = simp (length-take, length-drop) (omega arith) in
+    rw (part, ← counted)
 
 -- kept bytes, and a piece after them, at the start of a longer buffer
-pub joined_copy : (kept piece zeros one last : List ℕ) (all : ℕ)
-    → one ≡ take (length kept) kept ++ drop (length kept) zeros
-    → last ≡ take (length piece) piece ++ drop (length piece) (take (all - length kept) (drop (length kept) one))
-    → take (length kept + length piece) (put_mid (length kept) (all - length kept) one last) ≡ kept ++ piece
-joined_copy kept piece zeros one last all e f =
-    let after_piece = drop (length piece) (take (all - length kept) (drop (length kept) one)) in
-    let past_all = drop (all - length kept) (drop (length kept) one) in
-    let first : take (length kept) one ≡ kept =
-    ap (take (length kept)) e
-    ∙ ap (λ (l : List ℕ). take (length kept) (l ++ drop (length kept) zeros)) (take-length kept)
-    ∙ take-append_seam kept (drop (length kept) zeros) in
-    let second : last ≡ piece ++ after_piece = f ∙ ap (λ (l : List ℕ). l ++ after_piece) (take-length piece) in
-    ap₂ (λ (k l : List ℕ). take (length kept + length piece) (k ++ (l ++ past_all))) first second
-    ∙ take-append-add kept (piece ++ after_piece ++ past_all) (length piece)
-    ∙ ap (λ (l : List ℕ). kept ++ l) (ap (take (length piece)) (append_assoc piece after_piece past_all) ∙ take-append_seam piece (after_piece ++ past_all))
+pub joined_copy : (kept piece zeros one last : List ℕ)
+    → one ≡ kept
+    → last ≡ piece
+    → take (length kept + length piece) (put_mid (length kept) (length kept + length piece - length kept) (one ++ drop (length kept) zeros) last) ≡ kept ++ piece
+joined_copy kept piece zeros one last e f =
+    let past_all = drop (length kept + length piece - length kept) (drop (length kept) (kept ++ drop (length kept) zeros)) in
+    rw (e, f)
+    (ap (λ (l : List ℕ). take (length kept + length piece) (l ++ (piece ++ past_all))) (take-append_seam kept (drop (length kept) zeros))
+    ∙ take-append-add kept (piece ++ past_all) (length piece)
+    ∙ ap (λ (l : List ℕ). kept ++ l) (take-append_seam piece past_all))

@@ -53,6 +53,15 @@ full left (Record s) h = by (leb s.declared left) refl h
     by true e h = record { summary = s; is = refl; some = h; fits = leb-true s.declared left e; bytes = rw e }
     by false e h = absurd (omega arith)
 
+-- so many bytes have come
+pub bytes_within : (left : ℕ) (head : Head) → bytes_in left head ≤ left
+unfolding bytes_in
+bytes_within left head = by (leb (declared_by head) left) refl
+  where
+    by : (b : Bool) → leb (declared_by head) left ≡ b → cond b (declared_by head) 0 ≤ left
+    by true e = leb-true (declared_by head) left e
+    by false e = omega arith
+
 -- a record that is not all in lacks bytes
 pub lacks_bytes : (left : ℕ) (s : Summary) → 0 < s.declared → bytes_in left (Record s) ≡ 0 → left < s.declared
 unfolding bytes_in declared_by
@@ -100,6 +109,25 @@ module _ (bs : List ℕ) (word flags left : ℕ) where
 
     pub read_bytes : bytes_in left head ≡ declared_of bs flags
     read_bytes = sym (says ∙ all_in_lem fits)
+
+-- what a head says of its record, where bytes of it are all in
+pub record Read (bs : List ℕ) (word flags left declared : ℕ) (head : Head) : Type 0 where
+  pub is : head ≡ Record (summary_of bs word flags)
+  pub declares : declared ≡ (summary_of bs word flags).declared
+  pub some : 0 < (summary_of bs word flags).declared
+  pub fits : (summary_of bs word flags).declared ≤ left
+
+pub read_in : (bs : List ℕ) (word flags left declared : ℕ) {head : Head} → head_with bs word flags ≡ head → declared ≡ bytes_in left (head_with bs word flags)
+    → (declared ≡ 0 → ⊥) → Read bs word flags left declared head
+read_in bs word flags left declared e d n =
+    let found : 0 < bytes_in left (head_with bs word flags) = rw (← d) (omega arith) in
+    let declares : declared ≡ (summary_of bs word flags).declared = d ∙ read_bytes bs word flags left found in
+    record {
+      is = sym e ∙ read_record bs word flags left found;
+      declares = declares;
+      some = rw (← declares) (omega arith);
+      fits = bytes_there bs word flags left found;
+    }
 
 -- a record that is all in leaves the listing whole but where it is a Box whose header exceeds it
 pub keeps_whole_lem : (offset left : ℕ) (s : Summary) → s.declared ≤ left

@@ -104,19 +104,15 @@ module _ (most held : ℕ) (kept piece : List ℕ) (long : length kept ≡ most)
         (le_or_lt held most)
 
     -- the piece's are copied behind the kept ones
-    copied_behind : (last : List ℕ)
-        → (let part = take more piece in last ≡ take (length part) part ++ drop (length part) (take (length kept - len) (drop len kept)))
-        → put_mid len (length kept - len) kept last ≡ take most came ++ drop (length (take most came)) kept
+    copied_behind : (last : List ℕ) → last ≡ take more piece
+        → put_mid len (len + more - len) kept last ≡ take most came ++ drop (length (take most came)) kept
     copied_behind last e =
         let part = take more piece in
         let front = take len kept in
-        let part_length : length part ≡ more = length-take-le more piece (omega arith) in
-        let both-length : length (front ++ part) ≡ len + more = length-append front part ∙ rw (part_length, length-take-le len kept (omega arith)) in
-        let room : take (length kept - len) (drop len kept) ≡ drop len kept = take_all (length kept - len) (drop len kept) (simp length-drop (omega arith)) in
-        let end : drop (length kept - len) (drop len kept) ≡ [] = drop_of_length-le (drop len kept) {i = length kept - len} (simp length-drop (omega arith)) in
-        let is : last ≡ part ++ drop (len + more) kept = e ∙ rw (take-length part, room, part_length, drop-drop more len kept) in
-        rw (is, end, append-nil (part ++ drop (len + more) kept), first_parts, both-length)
-        (sym (append_assoc front part (drop (len + more) kept)))
+        let both_length : length (front ++ part) ≡ len + more =
+        length-append front part ∙ rw (length-take-le more piece (omega arith), length-take-le len kept (omega arith)) in
+        let many : len + more - len ≡ more = omega arith in
+        rw (e, many, drop-drop more len kept, first_parts, both_length) (sym (append_assoc front part (drop (len + more) kept)))
 
   -- what was held stays
   held_stays : held ≤ most → take held (take most came ++ drop (length (take most came)) kept) ≡ take held kept
@@ -128,9 +124,8 @@ module _ (most held : ℕ) (kept piece : List ℕ) (long : length kept ≡ most)
       ∙ take_at (take held kept) (more ++ after) held (length-take-le held kept (omega arith))
 
 module _ (held : ℕ) (kept piece : List ℕ) (long : length kept ≡ most_kept) where
-  pub taken_copy : (len more : ℕ) → len ≡ min held most_kept → more ≡ min (length piece) (most_kept - len) → (last : List ℕ)
-      → (let part = take more piece in last ≡ take (length part) part ++ drop (length part) (take (length kept - len) (drop len kept)))
-      → put_mid len (length kept - len) kept last ≡ kept_of (came_bytes held kept piece) kept
+  pub taken_copy : (len more : ℕ) → len ≡ min held most_kept → more ≡ min (length piece) (most_kept - len) → (last : List ℕ) → last ≡ take more piece
+      → put_mid len (len + more - len) kept last ≡ kept_of (came_bytes held kept piece) kept
   taken_copy len more l m last e = copied_behind most_kept held kept piece long len more l m last e
 
   pub taken_stays : held ≤ most_kept → take held (kept_of (came_bytes held kept piece) kept) ≡ take held kept

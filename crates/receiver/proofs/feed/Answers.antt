@@ -1,107 +1,83 @@
 -- `feed` gives what a piece leaves, or its refusal.
 -- By its tests, in their order. Assumes nothing.
 use mathlib.Core.Path.{◌≡◌, sym, ◌∙◌}
-use mathlib.Core.Bool.{true, false, ◌||◌}
-use Prim.Native.Nat.{◌≤◌}
+use mathlib.Core.Bool.{Bool, true, false, not, ◌||◌}
+use mathlib.Core.List.{List}
+use Prim.Native.Nat.{ℕ, min, ◌≤◌}
 use native.Mathlib.Omega.{arith}
 use lib.Dec.{ltb}
 use lib.ListN.{length}
 use borrow.Author.Tests.{ltb-false, not-true, not-false}
 use Rattle.basics.proofs.Bools.{neither}
-use Rattle.region_rows.specs.Rows.{capacity}
+use Rattle.region_rows.specs.Rows.{capacity, most_rows}
 use Rattle.receiver.specs.Calls.{most_piece, least_room, usable}
+use Rattle.receiver.specs.declared.State.{State}
 use Rattle.receiver.proofs.Bounds.{InRange, bounds_range, usable_bounds}
-use Rattle.receiver.proofs.Calls.{room_used, room_enough, feed_unusable, feed_badly, feed_long, feed_taken}
+use Rattle.receiver.proofs.Calls.{room_used, feed_unusable, feed_badly, feed_long, feed_taken}
 use Rattle.receiver.proofs.feed.Goals as goal
 
--- the receiver is usable
-module _ (c : tie.Else1) where
-  abbrev start : tie.Start
-  start = c
+-- a receiver that the test lets pass is usable, and its numbers are in their ranges
+passes : (s : State) (columns kept : List ℕ) (b : Bool) → b ≡ usable s columns kept → not b ≡ false → usable s columns kept ≡ true
+passes s columns kept b e h = sym e ∙ not-false b h
 
-  good : usable start.args.state start.args.rules.now start.args.kept.now ≡ true
-  good = sym c.see-seen.ensures.0 ∙ not-false c.see-seen.result.usable c.if-not-seen.false
+ranges : (s : State) (columns kept : List ℕ) (b : Bool) → b ≡ usable s columns kept → not b ≡ false → InRange s
+ranges s columns kept b e h = bounds_range s (usable_bounds s columns kept (passes s columns kept b e h))
 
-  ranges : InRange start.args.state
-  ranges = bounds_range start.args.state (usable_bounds start.args.state start.args.rules.now start.args.kept.now good)
-
--- the table's room
-module _ (c : tie.After-room-of) where
-  abbrev used : tie.Else1
-  used = c
-
-  roomy : ltb c.room_of.result least_room ≡ ltb (capacity (start used).args.spans.now) least_room
-  roomy = room_used (start used).args.spans.now c.room_of.result c.room_of.ensures
+-- the test of the piece and the table, by all the table's room
+tested : (piece t : List ℕ) (room : ℕ) {b : Bool} → room ≡ min (capacity t) most_rows → (ltb most_piece (length piece) || ltb room least_room) ≡ b
+    → (ltb most_piece (length piece) || ltb (capacity t) least_room) ≡ b
+tested piece t room e h = rw (sym (room_used t room e)) h
 
 -- piece and table are well
-module _ (c : tie.Else2) where
-  abbrev sized : tie.After-room-of
-  sized = c
-
-  abbrev a : tie.Start
-  a = start (used sized)
-
-  well : (ltb most_piece (length a.args.piece.now) || ltb (capacity a.args.spans.now) least_room) ≡ false
-  well = rw (roomy sized) at c.if-piece-room_of.false
-
-  apart : (ltb most_piece (length a.args.piece.now) ≡ false) × (ltb (capacity a.args.spans.now) least_room ≡ false)
-  apart = neither (ltb most_piece (length a.args.piece.now)) (ltb (capacity a.args.spans.now) least_room) well
-
-  few : length a.args.piece.now ≤ most_piece
-  few = ltb-false most_piece (length a.args.piece.now) apart.0
-
-  room : least_room ≤ capacity a.args.spans.now
-  room = ltb-false (capacity a.args.spans.now) least_room apart.1
+fits : (piece t : List ℕ) → (ltb most_piece (length piece) || ltb (capacity t) least_room) ≡ false → (length piece ≤ most_piece) × (least_room ≤ capacity t)
+fits piece t h =
+    let apart = neither (ltb most_piece (length piece)) (ltb (capacity t) least_room) h in
+    (ltb-false most_piece (length piece) apart.0, ltb-false (capacity t) least_room apart.1)
 
 pub returns-then-not-seen : goal.returns-then-not-seen
 returns-then-not-seen c =
-    let judged = c in
-    let a = judged.args in
-    let bad : usable a.state a.rules.now a.kept.now ≡ false =
-    sym judged.see-seen.ensures.usable_value ∙ not-true judged.see-seen.result.usable c.if-not-seen.true in
+    let a = c.args in
+    let bad = sym c.see-seen.ensures.usable_value ∙ not-true c.see-seen.result.usable c.if-not-seen.true in
     rw (c.refused.ensures.0, c.refused.ensures.1) (feed_unusable a.state a.rules.now a.piece.now a.kept.now a.spans.now bad)
 
 pub returns-then-piece-room_of : goal.returns-then-piece-room_of
 returns-then-piece-room_of c =
-    let sized = c in
-    let a = (start (used sized)).args in
+    let a = c.args in
+    let good = passes a.state a.rules.now a.kept.now c.see-seen.result.usable c.see-seen.ensures.usable_value c.if-not-seen.false in
     rw (c.refused-then-piece-room_of.ensures.0, c.refused-then-piece-room_of.ensures.1)
-    (feed_badly a.state a.rules.now a.piece.now a.kept.now a.spans.now (good (used sized)) (rw (roomy sized) at c.if-piece-room_of.true))
+    (feed_badly a.state a.rules.now a.piece.now a.kept.now a.spans.now good (tested a.piece.now a.spans.now c.room_of.result c.room_of.ensures c.if-piece-room_of.true))
 
 pub overflow_add-taken : goal.overflow_add-taken
 overflow_add-taken c =
-    let f = few c in
-    let taken = (ranges (used (sized c))).taken in
-    search (rules, f, taken)
+    let a = c.args in
+    let taken = (ranges a.state a.rules.now a.kept.now c.see-seen.result.usable c.see-seen.ensures.usable_value c.if-not-seen.false).taken in
+    let few = (fits a.piece.now a.spans.now (tested a.piece.now a.spans.now c.room_of.result c.room_of.ensures c.if-piece-room_of.false)).0 in
+    omega arith
 
 pub returns-then-taken : goal.returns-then-taken
 returns-then-taken c =
-    let passed = c in
-    let a = (start (used (sized passed))).args in
+    let a = c.args in
+    let good = passes a.state a.rules.now a.kept.now c.see-seen.result.usable c.see-seen.ensures.usable_value c.if-not-seen.false in
+    let well = tested a.piece.now a.spans.now c.room_of.result c.room_of.ensures c.if-piece-room_of.false in
     rw (c.refused-then-taken.ensures.0, c.refused-then-taken.ensures.1, c.shut_down.ensures)
-    (feed_long a.state a.rules.now a.piece.now a.kept.now a.spans.now (good (used (sized passed))) (well passed) c.if-taken.true)
-
-pub take_piece-moved-requires : goal.take_piece-moved-requires
-take_piece-moved-requires c =
-    let passed = c in
-    let u = used (sized passed) in
-    record { kept_value = (good u, few passed, (start u).pre, room_enough (start u).args.spans.now (room passed)); known = u.see-seen.ensures.known }
+    (feed_long a.state a.rules.now a.piece.now a.kept.now a.spans.now good well c.if-taken.true)
 
 pub overflow_add-result : goal.overflow_add-result
 overflow_add-result c =
-    let q = ranges (used (sized c)) in
+    let a = c.args in
+    let q = ranges a.state a.rules.now a.kept.now c.see-seen.result.usable c.see-seen.ensures.usable_value c.if-not-seen.false in
     let rows = q.rows in
     let offset = q.offset in
     let taken = q.taken in
-    search (rules, rows, offset, taken)
+    omega arith
 
 pub returns : goal.returns
 returns c =
-    let taking = c in
-    let passed = c in
-    let u = used (sized passed) in
-    let a = (start u).args in
-    let moved = taking.take_piece-moved in
+    let a = c.args in
+    let moved = c.take_piece-moved in
+    let good = passes a.state a.rules.now a.kept.now c.see-seen.result.usable c.see-seen.ensures.usable_value c.if-not-seen.false in
+    let well = tested a.piece.now a.spans.now c.room_of.result c.room_of.ensures c.if-piece-room_of.false in
+    let fit = fits a.piece.now a.spans.now well in
     rw c.bit_of.ensures.0
-    (feed_taken a.state a.rules.now a.piece.now a.kept.now a.spans.now (good u) (well passed) (omega arith) (few passed) (room passed)
-    moved.new.1.1.1.1.1.0 moved.new.1.1.1.1.1.1.0 moved.result moved.ensures)
+    (feed_taken a.state a.rules.now a.piece.now a.kept.now a.spans.now good well c.if-taken.false fit.0 fit.1
+    moved.new.kept moved.new.spans moved.result moved.ensures)

@@ -1,104 +1,96 @@
 -- `last` gives the listing at the end of the bytes.
 -- The kept bytes tell the header of all that is held. Assumes nothing.
 use mathlib.Core.Path.{◌≡◌, sym, ap, ◌∙◌}
+use mathlib.Core.Bool.{true}
 use mathlib.Core.List.{List}
-use Prim.Native.Nat.{ℕ}
+use Prim.Native.Nat.{ℕ, min}
 use native.Mathlib.Omega.{arith}
 use lib.ListN.{length, take}
 use Rattle.header_judge.specs.Version.{word_of}
-use Rattle.header_judge.specs.Head.{head_of}
+use Rattle.header_judge.specs.Head.{head_with, head_of}
+use Rattle.header_judge.specs.Steps.{Known}
 use Rattle.header_judge.proofs.Heads.{head_known}
-use Rattle.receiver.specs.Calls.{most_kept, held_in, rules_at, waiting_of}
+use Rattle.receiver.specs.Calls.{most_kept, held_in, rules_at, waiting_of, usable}
 use Rattle.receiver.specs.Steps.{bytes_in}
-use Rattle.receiver.proofs.Kept.{kept_front, front_length}
+use Rattle.receiver.specs.declared.State.{State}
+use Rattle.receiver.proofs.Kept.{kept_front}
 use Rattle.receiver.proofs.Moves.{held_length, held_head}
 use Rattle.receiver.proofs.Bounds.{InRange, bounds_range, usable_bounds, usable_waits}
 use Rattle.receiver.proofs.Ends.{last_none, last_one}
 use Rattle.receiver.proofs.last.last.Goals as goal
 
-module _ (s : tie.Start) where
-  abbrev rules : List ℕ
-  rules = rules_at s.args.state s.args.rules.now
+module _ (state : State) (columns kept : List ℕ) (good : usable state columns kept ≡ true) (long : length kept ≡ most_kept) where
+  ranges : InRange state
+  ranges = bounds_range state (usable_bounds state columns kept good)
 
-  abbrev kept : List ℕ
-  kept = s.args.kept.now
+  -- the header that is judged is that of all bytes
+  here : (len word flags : ℕ) → len ≡ min (held_in state) most_kept → word ≡ word_of (take (held_in state) kept) → Known (rules_at state columns) word flags
+      → head_with (take len kept) word flags ≡ head_of (rules_at state columns) (take (held_in state) kept)
+  here len word flags n w f =
+      let read : take len kept ≡ take (held_in state) kept = ap (λ (k : ℕ). take k kept) n ∙ kept_front (held_in state) kept long in
+      head_known (rules_at state columns) (take len kept) word flags (w ∙ ap word_of (sym read)) f ∙ ap (head_of (rules_at state columns)) read
 
-  abbrev held : ℕ
-  held = held_in s.args.state
-
-  long : length kept ≡ most_kept
-  long = s.pre.1
-
-  ranges : InRange s.args.state
-  ranges = bounds_range s.args.state (usable_bounds s.args.state s.args.rules.now kept s.pre.0)
-
-  waits : bytes_in held (head_of rules (take held kept)) ≡ 0
-  waits = usable_waits s.args.state s.args.rules.now kept long s.pre.0
-
-module _ (c : tie.After-judge-with) where
-  abbrev sized : tie.After-least
-  sized = c
-
-  abbrev start : tie.Start
-  start = sized
-
-  -- the header that was judged is that of all bytes
-  here : c.judge_with-head.result ≡ head_of (rules start) (take (held start) (kept start))
-  here =
-      let front = take sized.least-len.result (kept start) in
-      let seen = sized.see_kept-seen in
-      let read : front ≡ take (held start) (kept start) = ap (λ (n : ℕ). take n (kept start)) sized.least-len.ensures ∙ kept_front (held start) (kept start) (long start) in
-      c.judge_with-head.ensures.0
-      ∙ head_known (rules start) front seen.result.word seen.result.flags (seen.ensures.1.0 ∙ ap word_of (sym read)) seen.ensures.1.1
-      ∙ ap (head_of (rules start)) read
-
-  none_in : bytes_in (held start) c.judge_with-head.result ≡ 0
-  none_in = ap (bytes_in (held start)) here ∙ waits start
+  waits : bytes_in (held_in state) (head_of (rules_at state columns) (take (held_in state) kept)) ≡ 0
+  waits = usable_waits state columns kept long good
 
 pub overflow_cast-rows : goal.overflow_cast-rows
 overflow_cast-rows c =
-    let q = ranges c in
+    let q = ranges c.args.state c.args.rules.now c.args.kept.now c.requires.0 c.requires.1 in
     let rows = q.rows in
     let offset = q.offset in
     let taken = q.taken in
-    search (rules, rows, offset, taken)
+    omega arith
 
 pub overflow_sub-held : goal.overflow_sub-held
-overflow_sub-held c = (ranges c).offset
+overflow_sub-held c = (ranges c.args.state c.args.rules.now c.args.kept.now c.requires.0 c.requires.1).offset
 
 pub returns-then-held-eq0 : goal.returns-then-held-eq0
 returns-then-held-eq0 c =
-    let s = c in
-    let none : held s ≡ 0 = omega arith in
+    let a = c.args in
+    let rules = rules_at a.state a.rules.now in
+    let kept = a.kept.now in
+    let none : held_in a.state ≡ 0 = c.if-held-eq0.true in
     rw c.listing_at.ensures
-    (sym (last_none (rules s) (waiting_of s.args.state (kept s)) s.args.spans.now (held_length (rules s) (held s) (kept s) (long s) ∙ none)))
+    (sym (last_none rules (waiting_of a.state kept) a.spans.now (held_length rules (held_in a.state) kept c.requires.1 ∙ none)))
 
 pub see_kept-seen-requires : goal.see_kept-seen-requires
-see_kept-seen-requires c = let s = c in ((ranges s).blocks, long s)
-
-pub slice_bounds-judge_with-end : goal.slice_bounds-judge_with-end
-slice_bounds-judge_with-end c =
-    let sized = c in
-    let s = sized in
-    front_length (held s) sized.least-len.result (kept s) sized.least-len.ensures (long s)
+see_kept-seen-requires c = ((ranges c.args.state c.args.rules.now c.args.kept.now c.requires.0 c.requires.1).blocks, c.requires.1)
 
 pub at_head-requires : goal.at_head-requires
 at_head-requires c =
-    let judged = c in
-    let q = ranges (start judged) in
+    let a = c.args in
+    let seen = c.see_kept-seen in
+    let head = c.judge_with-head.ensures in
+    let q = ranges a.state a.rules.now a.kept.now c.requires.0 c.requires.1 in
+    let is =
+    here a.state a.rules.now a.kept.now c.requires.0 c.requires.1 c.least-len.result seen.result.word seen.result.flags
+    c.least-len.ensures seen.ensures.word_value.0 seen.ensures.word_value.1 in
     let rows = q.rows in
     let offset = q.offset in
     let taken = q.taken in
-    let room = (start judged).requires.2 in
-    (judged.judge_with-head.ensures.head_bounds, none_in judged, omega arith, omega arith, omega arith)
+    let room = c.requires.2 in
+    (
+      head.head_bounds,
+      ap (bytes_in (held_in a.state)) (head.value ∙ is) ∙ waits a.state a.rules.now a.kept.now c.requires.0 c.requires.1,
+      omega arith,
+      omega arith,
+      omega arith,
+    )
 
 pub returns : goal.returns
 returns c =
-    let judged = c in
-    let s = start judged in
-    let w = waiting_of s.args.state (kept s) in
-    let counted = held_length (rules s) (held s) (kept s) (long s) in
-    let head = held_head (rules s) (held s) (kept s) (long s) in
-    let room = s.pre.2 in
-    let ends = last_one (rules s) w s.args.spans.now (rw counted (omega arith)) (rw (counted, head) (waits s)) (omega arith) in
-    c.at_head.ensures ∙ rw (here judged) (sym (rw (counted, head) at ends))
+    let a = c.args in
+    let rules = rules_at a.state a.rules.now in
+    let kept = a.kept.now in
+    let held = held_in a.state in
+    let seen = c.see_kept-seen in
+    let is =
+    here a.state a.rules.now kept c.requires.0 c.requires.1 c.least-len.result seen.result.word seen.result.flags
+    c.least-len.ensures seen.ensures.word_value.0 seen.ensures.word_value.1 in
+    let counted = held_length rules held kept c.requires.1 in
+    let head = held_head rules held kept c.requires.1 in
+    let room = c.requires.2 in
+    let ends =
+    last_one rules (waiting_of a.state kept) a.spans.now (rw counted (omega arith))
+    (rw (counted, head) (waits a.state a.rules.now kept c.requires.0 c.requires.1)) (omega arith) in
+    c.at_head.ensures ∙ rw (c.judge_with-head.ensures.value, is) (sym (rw (counted, head) at ends))

@@ -1,6 +1,6 @@
 -- `flags_of` gives the flags of a word.
 -- There are none without rules; else they are known, or looked up. Assumes nothing.
-use mathlib.Core.Path.{◌≡◌, sym, ap, ◌∙◌}
+use mathlib.Core.Path.{◌≡◌}
 use mathlib.Core.List.{List}
 use Prim.Native.Nat.{ℕ, ◌*◌}
 use Rattle.rules.specs.Rules.{rules_of, with_rules, flags_of}
@@ -8,18 +8,9 @@ use Rattle.rules.specs.Columns.{rules_from, rules_in}
 use Rattle.receiver.proofs.pass.flags_of.Goals as goal
 
 -- no rules, no flags
-no-flags : (columns : List ℕ) (blocks word : ℕ) → blocks ≡ 0 → 0 ≡ flags_of (rules_in columns (blocks * 8)) word
+no_flags : (columns : List ℕ) (blocks word : ℕ) → blocks ≡ 0 → 0 ≡ flags_of (rules_in columns (blocks * 8)) word
 unfolding flags_of with_rules rules_of rules_from
-no-flags columns blocks word e = rw e
+no_flags columns blocks word e = rw e
 
 pub returns-then-blocks-eq0 : goal.returns-then-blocks-eq0
-returns-then-blocks-eq0 c = λ n. no-flags c.args.rules.now c.args.blocks c.args.word c.if-blocks-eq0.true
-
-pub returns-then-word-last : goal.returns-then-word-last
-returns-then-word-last c =
-    let s = c in
-    let same = c.if-word-last.true in
-    λ n. s.requires.1 (λ z. n (same ∙ z)) ∙ ap (flags_of (rules_in s.args.rules.now (s.args.blocks * 8))) (sym same)
-
-pub returns : goal.returns
-returns c = λ n. c.flags_in.ensures
+returns-then-blocks-eq0 c = λ n. no_flags c.args.rules.now c.args.blocks c.args.word c.if-blocks-eq0.true

@@ -6,7 +6,7 @@ use mathlib.Core.Bool.{Bool, not, ◌&&◌}
 use Prim.Native.Nat.{ℕ, ◌≤◌, ◌<◌}
 use lib.Dec.{ltb}
 use Rattle.header_judge.specs.Head.{lacking, size_of, declared_of, is_box, summary_of, head_with}
-use Rattle.region_rows.specs.Rows.{top, with_span}
+use Rattle.region_rows.specs.Rows.{top}
 use Rattle.region_try.specs.Tries.{hit, span_of}
 use Rattle.region_try.specs.Whole.{keeps_whole}
 use Rattle.receiver.specs.Steps.{bytes_in}
@@ -19,39 +19,37 @@ whole_by : (bs : List ℕ) (word flags offset left declared size : ℕ) (box : B
 whole_by bs word flags offset left declared size box b d z h = rw (b, d, z) (keeps_whole_lem offset left (summary_of bs word flags) h)
 
 -- the header is there, and so are the bytes that it declares
-module _ (c : tie.Start) where
-  abbrev bytes : List ℕ
-  bytes = c.args.s.now
-
-  some : 0 < bytes_in c.args.left (head_with bytes c.args.word c.args.flags)
-  some = rw (← c.requires.1.1) c.requires.1.0
-
-  sized : lacking < c.args.size
-  sized = rw c.requires.0.0 (header_there bytes c.args.word c.args.flags c.args.left some)
-
-  declares : c.args.declared ≡ declared_of bytes c.args.flags
-  declares = c.requires.1.1 ∙ read_bytes bytes c.args.word c.args.flags c.args.left some
-
-  fits : declared_of bytes c.args.flags ≤ c.args.left
-  fits = bytes_there bytes c.args.word c.args.flags c.args.left some
+there : (bs : List ℕ) (word flags left size declared : ℕ) → size ≡ size_of bs word flags → 0 < declared → declared ≡ bytes_in left (head_with bs word flags)
+    → record { declares : declared ≡ declared_of bs flags; sized : lacking < size; fits : declared_of bs flags ≤ left }
+there bs word flags left size declared is some are =
+    let all_in : 0 < bytes_in left (head_with bs word flags) = rw (← are) some in
+    record {
+      declares = are ∙ read_bytes bs word flags left all_in;
+      sized = rw is (header_there bs word flags left all_in);
+      fits = bytes_there bs word flags left all_in;
+    }
 
 pub summary_of-summary-requires : goal.summary_of-summary-requires
-summary_of-summary-requires c = let s = c in (declares s, s.requires.0.0, sized s)
+summary_of-summary-requires c =
+    let a = c.args in
+    let size = c.requires.size_value in
+    let in_full = c.requires.declared_nonzero in
+    let t = there a.s.now a.word a.flags a.left a.size a.declared size.0 in_full.0 in_full.1 in
+    (t.declares, size.0, t.sized)
 
 pub span_of-span-requires : goal.span_of-span-requires
 span_of-span-requires c =
-    let s = c in
+    let a = c.args in
+    let size = c.requires.size_value in
+    let in_full = c.requires.declared_nonzero in
+    let t = there a.s.now a.word a.flags a.left a.size a.declared size.0 in_full.0 in_full.1 in
     let said = c.summary_of-summary.ensures in
-    (s.requires.1.3, rw (said, ← declares s) s.requires.1.2, rw (said, ← s.requires.0.0) (s.requires.0.1 (sized s)).most)
+    (in_full.3, rw (said, ← t.declares) in_full.2, rw (said, ← size.0) (size.1 t.sized).most)
 
-pub returns : goal.returns
-returns c =
-    let put = c in
-    let span = put in
-    let summary = span in
-    let s = summary in
-    let a = s.args in
-    let row = span.span_of-span.ensures ∙ ap (span_of 0 top a.offset a.left) summary.summary_of-summary.ensures in (
-      put.put.ensures ∙ ap (with_span a.spans.now a.rows) row,
-      whole_by a.s.now a.word a.flags a.offset a.left a.declared a.size c.is_box.result c.is_box.ensures (declares s) s.requires.0.0 (fits s),
-    )
+pub returns-clause-value : goal.returns-clause-value
+returns-clause-value c =
+    let a = c.args in
+    let size = c.requires.size_value in
+    let in_full = c.requires.declared_nonzero in
+    let t = there a.s.now a.word a.flags a.left a.size a.declared size.0 in_full.0 in_full.1 in
+    whole_by a.s.now a.word a.flags a.offset a.left a.declared a.size c.is_box.result c.is_box.ensures t.declares size.0 t.fits

@@ -2,224 +2,131 @@
 -- The header of all stands in the bytes that are taken in; past its record the piece's own are walked, or all where it is small. Assumes nothing.
 use mathlib.Core.Path.{◌≡◌, sym, ap, ap₂, ◌∙◌}
 use mathlib.Core.List.{List, ◌++◌}
-use Prim.Native.Nat.{ℕ, ◌+◌, ◌-◌, ◌*◌, min, ◌≤◌, ◌<◌}
+use Prim.Native.Nat.{ℕ, ◌+◌, ◌-◌, ◌*◌, min, ◌≤◌}
 use native.Mathlib.Omega.{arith}
 use lib.ListN.{length, take, drop, length-drop}
-use lib.Seq.{length-take-le}
 use Rattle.basics.proofs.Parts.{tail_part}
 use Rattle.rules.specs.Columns.{rules_in}
-use Rattle.header_judge.specs.declared.Summary.{Summary}
-use Rattle.header_judge.specs.declared.Head.TheVariants.{Record}
-use Rattle.header_judge.specs.Head.{summary_of, head_with, head_of}
+use Rattle.header_judge.specs.Version.{word_of}
+use Rattle.header_judge.specs.Head.{head_with, head_of}
+use Rattle.header_judge.specs.Steps.{Known}
 use Rattle.header_judge.proofs.Heads.{head_known}
-use Rattle.receiver.specs.Calls.{most_kept}
+use Rattle.receiver.specs.Calls.{most_kept, kept_of}
 use Rattle.receiver.specs.Steps.{bytes_in, moved_of, came_bytes}
 use Rattle.receiver.proofs.Taken.{kept_length, head_taken, taken_stays}
-use Rattle.receiver.proofs.Records.{bytes_there, read_record, read_bytes}
+use Rattle.receiver.proofs.Records.{Read, read_in, bytes_within}
 use Rattle.receiver.proofs.Moves.{came_length, held_kept, small_kept, record_then, none_then}
 use Rattle.receiver.proofs.piece.after_held.Goals as goal
 
--- the piece is taken in
-module _ (c : tie.After-take-in) where
-  abbrev start : tie.Start
-  start = c
-
-  abbrev rules : List ℕ
-  rules = rules_in start.args.rules.now (start.args.blocks * 8)
-
-  abbrev kept : List ℕ
-  kept = start.args.kept.now
-
-  abbrev piece : List ℕ
-  piece = start.args.piece.now
-
-  abbrev held : ℕ
-  held = start.args.held
-
+-- what has come, and its header as it is read where the piece is taken in
+module _ (rules : List ℕ) (held : ℕ) (kept piece : List ℕ) (long : length kept ≡ most_kept) where
   abbrev came : List ℕ
   came = came_bytes held kept piece
 
-  abbrev taken : List ℕ
-  taken = c.take_in-len.new.1.1.0
-
-  long : length kept ≡ most_kept
-  long = start.pre.0.5
-
-  taken-long : length taken ≡ most_kept
-  taken-long = ap length c.take_in-len.ensures.0 ∙ kept_length came kept long
-
-  front_length : c.take_in-len.result ≡ length (take c.take_in-len.result taken)
-  front_length = let n = c.take_in-len.ensures.1 in let l = taken-long in sym (length-take-le c.take_in-len.result taken (omega arith))
-
--- the header is read
-module _ (c : tie.After-bytes-in) where
-  abbrev taking : tie.After-take-in
-  taking = c
-
-  abbrev flagged : tie.After-flags-of
-  flagged = c
-
-  abbrev word : ℕ
-  word = flagged.word_of-word.result
-
-  abbrev flags : ℕ
-  flags = flagged.flags_of-flags.result
-
-  abbrev front : List ℕ
-  front = take taking.take_in-len.result (taken taking)
-
   abbrev left : ℕ
-  left = held taking + length (piece taking)
+  left = held + length piece
 
-  here : head_with front word flags ≡ head_of (rules taking) (came taking)
-  here =
-      let n = taking.take_in-len.result in
-      head_known (rules taking) front word flags flagged.word_of-word.ensures flagged.flags_of-flags.ensures
-      ∙ ap (λ (bs : List ℕ). head_of (rules taking) (take n bs)) taking.take_in-len.ensures.0
-      ∙ head_taken (rules taking) (came taking) (kept taking) n
-      (taking.take_in-len.ensures.1 ∙ ap (λ (k : ℕ). min k 536) (sym (came_length (rules taking) (held taking) (kept taking) (piece taking) (long taking))))
+  module _ (len : ℕ) (taken : List ℕ) (n : len ≡ min left most_kept) (t : taken ≡ kept_of came kept) (word flags : ℕ) (w : word ≡ word_of (take len taken)) (f : Known rules word flags) where
+    here : head_with (take len taken) word flags ≡ head_of rules came
+    here =
+        head_known rules (take len taken) word flags w f
+        ∙ ap (λ (bs : List ℕ). head_of rules (take len bs)) t
+        ∙ head_taken rules came kept len (n ∙ ap (λ (k : ℕ). min k most_kept) (sym (came_length rules held kept piece long)))
 
-  none_here : c.bytes_in-declared.result ≡ 0 → bytes_in left (head_of (rules taking) (came taking)) ≡ 0
-  none_here e = ap (bytes_in left) (sym here) ∙ sym c.bytes_in-declared.ensures.0 ∙ e
+    none_here : (declared : ℕ) → declared ≡ bytes_in left (head_with (take len taken) word flags) → declared ≡ 0 → bytes_in left (head_of rules came) ≡ 0
+    none_here declared d z = ap (bytes_in left) (sym here) ∙ sym d ∙ z
 
-  -- a record is all in
-  module _ (n : c.bytes_in-declared.result ≡ 0 → ⊥) where
-    found : 0 < bytes_in left (head_with front word flags)
-    found = rw (← c.bytes_in-declared.ensures.0) (omega arith)
-
-    abbrev summary : Summary
-    summary = summary_of front word flags
-
-    declares : c.bytes_in-declared.result ≡ summary.declared
-    declares = c.bytes_in-declared.ensures.0 ∙ read_bytes front word flags left found
-
-    some : 0 < summary.declared
-    some = rw (← declares) (omega arith)
-
-    fits : summary.declared ≤ left
-    fits = bytes_there front word flags left found
-
-    is : head_of (rules taking) (came taking) ≡ Record summary
-    is = sym here ∙ read_record front word flags left found
-
--- a record that is smaller than what was held
-module _ (c : tie.Then2) where
-  abbrev read : tie.After-bytes-in
-  read = c
-
-  few : held (taking read) ≤ most_kept
-  few =
-      let n = c.if-declared-eq0.false in
-      let t = taking read in
-      let d = declares read n in
-      small_kept (rules t) (held t) (kept t) (piece t) (long t) (summary read n) (is read n) (some read n) (start t).pre.1.1 (let small = c.if-declared-held.true in omega arith)
-
--- the record's row is written
-module _ (c : tie.After-put-record) where
-  abbrev judged : tie.After-bytes-in
-  judged = c
-
-  there : judged.bytes_in-declared.result ≡ 0 → ⊥
-  there = c.if-declared-eq0.false
-
-  within : (held (taking judged) ≤ judged.bytes_in-declared.result) × (judged.bytes_in-declared.result - held (taking judged) ≤ length (piece (taking judged))) × (judged.bytes_in-declared.result ≤ left judged)
-  within = let d = declares judged there in let f = fits judged there in let m = c.if-declared-held.false in (omega arith, omega arith, omega arith)
-
-pub slice_bounds-word_of-end-2 : goal.slice_bounds-word_of-end-2
-slice_bounds-word_of-end-2 c = front_length c
-
-pub slice_bounds-size_of-end-2 : goal.slice_bounds-size_of-end-2
-slice_bounds-size_of-end-2 c = front_length c
-
-pub slice_bounds-bytes_in-end-2 : goal.slice_bounds-bytes_in-end-2
-slice_bounds-bytes_in-end-2 c = front_length c
+    record_here : (declared : ℕ) → declared ≡ bytes_in left (head_with (take len taken) word flags) → (declared ≡ 0 → ⊥)
+        → Read (take len taken) word flags left declared (head_of rules came)
+    record_here declared d z = read_in (take len taken) word flags left declared here d z
 
 pub returns-then-declared-eq0 : goal.returns-then-declared-eq0
 returns-then-declared-eq0 c =
-    let f = c in
-    let t = taking f in
-    let a = (start t).args in
-    ap (λ (bs : List ℕ). (bs, a.spans.now, a.from)) t.take_in-len.ensures.kept_after
-    ∙ none_then (rules t) (held t) (kept t) (piece t) (long t) a.from.offset a.from.rows a.from.whole a.spans.now (none_here f c.if-declared-eq0.true)
+    let a = c.args in
+    let rules = rules_in a.rules.now (a.blocks * 8) in
+    let long = c.requires.blocks_bound.5 in
+    let taken = c.take_in-len in
+    let none =
+    none_here rules a.held a.kept.now a.piece.now long taken.result taken.new.kept taken.ensures.value taken.ensures.kept_after
+    c.word_of-word.result c.flags_of-flags.result c.word_of-word.ensures c.flags_of-flags.ensures
+    c.bytes_in-declared.result c.bytes_in-declared.ensures.value c.if-declared-eq0.true in
+    rw taken.ensures.kept_after (none_then rules a.held a.kept.now a.piece.now long a.from.offset a.from.rows a.from.whole a.spans.now none)
 
-pub walk_joined-requires : goal.walk_joined-requires
-walk_joined-requires c =
-    let small = c in
-    let t = taking (read small) in
-    let fits_all = (start t).pre.0 in
-    record { blocks_bound = (fits_all.0, omega arith, fits_all.2, fits_all.3, few small, fits_all.4, taken-long t); known = (flagged (read small)).flags_of-flags.ensures }
+pub walk_joined-requires-clause-blocks_bound : goal.walk_joined-requires-clause-blocks_bound
+walk_joined-requires-clause-blocks_bound c =
+    let a = c.args in
+    let rules = rules_in a.rules.now (a.blocks * 8) in
+    let bounds = c.requires.blocks_bound in
+    let taken = c.take_in-len in
+    let r =
+    record_here rules a.held a.kept.now a.piece.now bounds.5 taken.result taken.new.kept taken.ensures.value taken.ensures.kept_after
+    c.word_of-word.result c.flags_of-flags.result c.word_of-word.ensures c.flags_of-flags.ensures
+    c.bytes_in-declared.result c.bytes_in-declared.ensures.value c.if-declared-eq0.false in
+    let declares = r.declares in
+    let few = small_kept rules a.held a.kept.now a.piece.now bounds.5 _ r.is r.some c.requires.known.1 (omega arith) in
+    (bounds.0, omega arith, bounds.2, bounds.3, few, bounds.4, taken.auto.kept ∙ bounds.5)
 
 pub returns-then-declared-held : goal.returns-then-declared-held
 returns-then-declared-held c =
-    let small = c in
-    let t = taking (read small) in
-    let a = (start t).args in
-    let all : take (held t) (taken t) ++ piece t ≡ came t =
-    ap (λ (bs : List ℕ). take (held t) bs ++ piece t) t.take_in-len.ensures.kept_after
-    ∙ ap (λ (bs : List ℕ). bs ++ piece t) (taken_stays (held t) (kept t) (piece t) (long t) (few small))
-    ∙ sym (held_kept (rules t) (held t) (kept t) (piece t) (long t) (few small)) in
+    let a = c.args in
+    let rules = rules_in a.rules.now (a.blocks * 8) in
+    let long = c.requires.blocks_bound.5 in
+    let taken = c.take_in-len in
+    let r =
+    record_here rules a.held a.kept.now a.piece.now long taken.result taken.new.kept taken.ensures.value taken.ensures.kept_after
+    c.word_of-word.result c.flags_of-flags.result c.word_of-word.ensures c.flags_of-flags.ensures
+    c.bytes_in-declared.result c.bytes_in-declared.ensures.value c.if-declared-eq0.false in
+    let declares = r.declares in
+    let few = small_kept rules a.held a.kept.now a.piece.now long _ r.is r.some c.requires.known.1 (omega arith) in
+    let all : take a.held taken.new.kept ++ a.piece.now ≡ came_bytes a.held a.kept.now a.piece.now =
+    ap (λ (bs : List ℕ). take a.held bs ++ a.piece.now) taken.ensures.kept_after
+    ∙ ap (λ (bs : List ℕ). bs ++ a.piece.now) (taken_stays a.held a.kept.now a.piece.now long few)
+    ∙ sym (held_kept rules a.held a.kept.now a.piece.now long few) in
     c.walk_joined.ensures
-    ∙ ap₂ (λ (bs ks : List ℕ). moved_of (rules t) bs a.from.offset a.from.rows a.from.whole ks a.spans.now) all t.take_in-len.ensures.kept_after
-
-pub slice_bounds-put_record-end-2 : goal.slice_bounds-put_record-end-2
-slice_bounds-put_record-end-2 c = front_length (taking c)
-
-pub put_record-keeps-requires : goal.put_record-keeps-requires
-put_record-keeps-requires c =
-    let f = c in
-    let fits_all = (start (taking f)).pre.0 in
-    let n = c.if-declared-eq0.false in
-    record { size_value = f.size_of-size.ensures; declared_nonzero = (omega arith, f.bytes_in-declared.ensures.value, f.bytes_in-declared.ensures.upper_bound, omega arith, omega arith) }
-
-pub overflow_add-next-2 : goal.overflow_add-next-2
-overflow_add-next-2 c =
-    let put = c in
-    let w = (within put).2 in
-    let placed = (start (taking (judged put))).pre.0.1 in
-    let short = (start (taking (judged put))).pre.0.4 in
-    search (rules, w, placed, short)
+    ∙ ap₂ (λ (bs ks : List ℕ). moved_of rules bs a.from.offset a.from.rows a.from.whole ks a.spans.now) all taken.ensures.kept_after
 
 pub slice_bounds-walk_on-count : goal.slice_bounds-walk_on-count
-slice_bounds-walk_on-count c = (within c).1
+slice_bounds-walk_on-count c =
+    let declared : c.bytes_in-declared.result ≤ c.args.held + length c.args.piece.now = rw c.bytes_in-declared.ensures.value (bytes_within _ _) in
+    omega arith
 
 pub slice_bounds-walk_on-start : goal.slice_bounds-walk_on-start
-slice_bounds-walk_on-start c = (within c).1
+slice_bounds-walk_on-start c =
+    let declared : c.bytes_in-declared.result ≤ c.args.held + length c.args.piece.now = rw c.bytes_in-declared.ensures.value (bytes_within _ _) in
+    omega arith
 
-pub walk_on-requires : goal.walk_on-requires
-walk_on-requires c =
-    let put = c in
-    let w = within put in
-    let same = put.put_record-keeps.auto.1.1.1.1.1.1.1.1.0 in
-    let t = taking (judged put) in
-    let fits_all = (start t).pre.0 in
-    let declared = w.2 in
-    let enough = w.0 in (
-      (
-        fits_all.0,
-        simp (tail_part, length-drop) (omega arith),
-        simp (tail_part, length-drop) (omega arith),
-        simp (tail_part, length-drop) (omega arith),
-        taken-long t,
-      ),
-      (flagged (judged put)).flags_of-flags.ensures,
+pub walk_on-requires-clause-blocks_bound : goal.walk_on-requires-clause-blocks_bound
+walk_on-requires-clause-blocks_bound c =
+    let bounds = c.requires.blocks_bound in
+    let all = c.take_in-len.auto.kept in
+    let same = c.put_record-keeps.auto.spans in
+    let declared : c.bytes_in-declared.result ≤ c.args.held + length c.args.piece.now = rw c.bytes_in-declared.ensures.value (bytes_within _ _) in
+    let small = c.if-declared-held.false in
+    (
+      bounds.0,
+      simp (tail_part, length-drop) (omega arith),
+      simp (tail_part, length-drop) (omega arith),
+      simp (tail_part, length-drop) (omega arith),
+      all ∙ bounds.5,
     )
-
-pub shape_of-kept : goal.shape_of-kept
-shape_of-kept c = c.walk_on.auto.1.1.1.1.1.1.0 ∙ (taking (judged c)).take_in-len.kept.1.1.0
 
 pub returns : goal.returns
 returns c =
-    let put = c in
-    let f = judged put in
-    let n = there put in
-    let t = taking f in
-    let a = (start t).args in
-    let d = f.bytes_in-declared.result in
+    let a = c.args in
     let from = a.from in
-    let own = tail_part (piece t) (d - held t) in
+    let rules = rules_in a.rules.now (a.blocks * 8) in
+    let long = c.requires.blocks_bound.5 in
+    let taken = c.take_in-len in
+    let put = c.put_record-keeps in
+    let declared = c.bytes_in-declared.result in
+    let r =
+    record_here rules a.held a.kept.now a.piece.now long taken.result taken.new.kept taken.ensures.value taken.ensures.kept_after
+    c.word_of-word.result c.flags_of-flags.result c.word_of-word.ensures c.flags_of-flags.ensures
+    declared c.bytes_in-declared.ensures.value c.if-declared-eq0.false in
+    let declares = r.declares in
     c.walk_on.ensures
-    ∙ record_then (rules t) (held t) (kept t) (piece t) (long t) from.offset from.rows from.whole a.spans.now (summary f n) (is f n) (some f n)
-    (let e = declares f n in let w = (within put).0 in omega arith) (fits f n) (taken t)
-    (take (length (piece t) - (d - held t)) (drop (d - held t) (piece t))) put.put_record-keeps.new.1.1.1.1.1.1.1.1.0 d put.put_record-keeps.result
-    own (declares f n) put.put_record-keeps.ensures.spans_after put.put_record-keeps.ensures.value
-    ∙ ap (λ (ks : List ℕ). moved_of (rules t) (came t) from.offset from.rows from.whole ks a.spans.now) t.take_in-len.ensures.kept_after
+    ∙ record_then rules a.held a.kept.now a.piece.now long from.offset from.rows from.whole a.spans.now _ r.is r.some
+    (rw (← declares) c.if-declared-held.false) r.fits taken.new.kept
+    (take (length a.piece.now - (declared - a.held)) (drop (declared - a.held) a.piece.now)) put.new.spans declared put.result
+    (tail_part a.piece.now (declared - a.held)) declares put.ensures.spans_after put.ensures.value
+    ∙ ap (λ (ks : List ℕ). moved_of rules (came_bytes a.held a.kept.now a.piece.now) from.offset from.rows from.whole ks a.spans.now) taken.ensures.kept_after

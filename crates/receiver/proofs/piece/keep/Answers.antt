@@ -5,7 +5,5 @@ use Rattle.receiver.proofs.piece.keep.Goals as goal
 
 pub returns : goal.returns
 returns c =
-    let copying = c in
-    let counted = copying in
-    let a = counted.args in
-    copied a.s.now a.kept.now copying.copy.new.1.0 a.at counted.least-len.result (search rules) counted.least-len.ensures copying.copy.ensures.1
+    let a = c.args in
+    copied a.s.now a.kept.now c.copy_from_slice.new.self a.at c.least-len.result c.requires.0 c.least-len.ensures c.copy_from_slice.ensures.after
