@@ -2,25 +2,21 @@
 #![tactic(auto)]
 
 use input::{Input, read_input};
-use libc::STDOUT_FILENO;
+use std::io;
 
-// Prints the text of a region; stops at the first write that fails.
-fn print_dump(region: &[u8]) {
+// Prints the text of a region.
+fn print_dump(rt: &impl Print, region: &[u8]) -> io::Result<()> {
     let mut out = [0u8; text::MOST_TEXT];
     let n = text::dump(region, &mut out);
-    io::write_all(STDOUT_FILENO, &out[..n]);
+    rt.write_all(&out[..n])
 }
 
 // The buffer has one byte more than the longest region.
-fn main() {
+fn main(rt: HostRuntime) -> io::Result<()> {
     let mut buffer = [0u8; 65536];
-    let input = read_input(&mut buffer);
+    let input = read_input(&rt, &mut buffer);
     match input {
-        Input::Bytes(count) => {
-            print_dump(&buffer[..count]);
-        }
-        Input::Failed => {
-            input::tell_failed(b"dump");
-        }
+        Input::Bytes(count) => print_dump(&rt, &buffer[..count]),
+        Input::Failed => input::tell_failed(&rt, "dump"),
     }
 }

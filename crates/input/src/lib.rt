@@ -4,7 +4,8 @@
 ghost use Rattle.std.specs.Prelude.{length};
 ghost use Rattle.input.specs.Input.{Within};
 
-use libc::{STDERR_FILENO, STDIN_FILENO};
+use std::io;
+use std::io::Read;
 
 // How many bytes were read, or that a read failed.
 #[derive(Clone, Copy)]
@@ -14,23 +15,23 @@ pub enum Input {
 }
 
 // Reads once: no bytes at the end of the input.
-fn read_some(free: &mut [u8]) -> Input
+fn read_some(reader: &mut impl Read, free: &mut [u8]) -> Input
     ensures { Within (length free.old) result }
 {
-    let got = libc::read(STDIN_FILENO, free);
-    if got < 0 {
-        return Input::Failed;
+    match reader.read(free) {
+        Ok(count) => Input::Bytes(count),
+        Err(_) => Input::Failed,
     }
-    Input::Bytes(io::count(got, free))
 }
 
 // Reads until the input ends or the buffer is full.
-pub fn read_input(buffer: &mut [u8]) -> Input
+pub fn read_input(rt: &impl io::Input, buffer: &mut [u8]) -> Input
     ensures { Within (length buffer.old) result }
 {
+    let mut reader = rt.reader();
     let mut count = 0;
     while count < buffer.len() {
-        let input = read_some(&mut buffer[count..]);
+        let input = read_some(&mut reader, &mut buffer[count..]);
         match input {
             Input::Failed => {
                 return Input::Failed;
@@ -47,7 +48,6 @@ pub fn read_input(buffer: &mut [u8]) -> Input
 }
 
 // Says on standard error that a program's input can't be read.
-pub fn tell_failed(program: &[u8]) {
-    io::write_all(STDERR_FILENO, program);
-    io::write_all(STDERR_FILENO, b": standard input can't be read\n");
+pub fn tell_failed(rt: &impl Eprint, program: &str) -> io::Result<()> {
+    eprintln!(rt; "{program}: standard input can't be read")
 }

@@ -9,7 +9,8 @@ use lib.Dec.{eqb, leb}
 use lib.ListN.{length, take, replicate, length-append, length-replicate}
 use lib.Seq.{take-append_seam}
 use borrow.Author.Tests.{leb-true, not-true}
-use Rattle.bytes.specs.Bytes.{index_of, index_after}
+use Rattle.std.specs.List.{position_or_len}
+use Rattle.std.proofs.Math.Numerals.{one-add}
 use Rattle.basics.proofs.Bools.{both}
 use Rattle.names.specs.Names.{Table, named, unknown, lookup, text_of, padded, name_of}
 
@@ -41,15 +42,15 @@ full : List ℕ → Bool
 full [] = true
 full (byte ∷ bytes) = not (eqb byte 0) && full bytes
 
-first_zero : (name : List ℕ) (n : ℕ) → full name ≡ true → index_of 0 (name ++ replicate n 0) ≡ length name
-unfolding index_of index_after full
+first_zero : (name : List ℕ) (n : ℕ) → full name ≡ true → position_or_len (λ byte. eqb byte 0) (name ++ replicate n 0) ≡ length name
+unfolding full
 first_zero [] zero h = refl
 first_zero [] (suc n) h = refl
 first_zero (byte ∷ bytes) n h =
     let (this, others) = both (not (eqb byte 0)) (full bytes) h in
-    rw (not-true (eqb byte 0) this) (ap suc (first_zero bytes n others))
+    rw (not-true (eqb byte 0) this, one-add) (ap suc (first_zero bytes n others))
 
-pub name_ends : (t : ℕ) → index_of 0 (padded (text_of t)) ≡ length (text_of t)
+pub name_ends : (t : ℕ) → position_or_len (λ byte. eqb byte 0) (padded (text_of t)) ≡ length (text_of t)
 unfolding padded text_of named full every
 name_ends t = first_zero (text_of t) (16 - length (text_of t)) (passes full t named refl)
 

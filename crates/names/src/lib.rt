@@ -18,10 +18,10 @@ pub fn name_of(record_type: u32) -> Name
     ensures { result ≡ name_of record_type }
 {
     let spelled = table::search(record_type);
-    let len = match spelled.iter().position(|byte| *byte == 0) {
-        Some(end) => end,
-        None => spelled.len(),
-    };
+    let len = spelled
+        .iter()
+        .position(|byte| *byte == 0)
+        .unwrap_or(spelled.len());
     Name {
         bytes: spelled,
         len,

@@ -6,9 +6,8 @@ use Prim.Native.Nat.{ℕ, suc, ◌+◌, ◌-◌, ◌≤◌}
 use native.Mathlib.Nat.{add-zero, zero-add, add-suc, suc-add, add_assoc}
 use native.Mathlib.Omega.{arith}
 use lib.ListN.{length, take, drop, set, length-append}
-use lib.Seq.{sets, sets-eq, length-sets, take-length}
+use lib.Seq.{sets, sets-eq, length-sets, drop-drop}
 use borrow.Rule.Slice.PartMut.{put_mid}
-use Rattle.basics.proofs.Parts.{put_through}
 use Rattle.region.specs.declared.Listing.{Listing}
 use Rattle.text.specs.Dump.{each, text_of_listing}
 use Rattle.text.specs.Steps.{Puts}
@@ -41,15 +40,13 @@ nothing l at = record { bytes = refl; ends = sym (add-zero at); few = omega arit
 pub fewer : {before after : List ℕ} {at next m : ℕ} {text : List ℕ} (n : ℕ) → Puts before at text m after next → length text ≤ n → Puts before at text n after next
 fewer n p h = record { bytes = p.bytes; ends = p.ends; few = omega (arith, p.ends) }
 
--- a copy into the part of a buffer from `at` on: nothing stands after that part
-pub through : (l text part : List ℕ) (at : ℕ) → at + length text ≤ length l
-    → part ≡ take (length text) text ++ drop (length text) (take (length l - at) (drop at l))
-    → Puts l at text (length text) (put_mid at (length l - at) l part) (at + length text)
+-- a text copied over the part of a buffer that is as long as it
+pub through : (l text part : List ℕ) (at : ℕ) → at + length text ≤ length l → part ≡ text
+    → Puts l at text (length text) (put_mid at (at + length text - at) l part) (at + length text)
 through l text part at h e =
+    let n : at + length text - at ≡ length text = omega arith in
     record {
-      bytes =
-          put_through l text part at (length text) (e ∙ rw take-length)
-          ∙ sym (sets-eq text l at h ∙ append_assoc (take at l) text (drop (at + length text) l));
+      bytes = rw (e, n, drop-drop (length text) at l, sets-eq text l at h) (sym (append_assoc (take at l) text (drop (at + length text) l)));
       ends = refl;
       few = omega arith;
     }

@@ -1,26 +1,30 @@
 -- `name_of` gives the name of a record type.
 -- The padded name is found in the table, and its first zero is where the name ends. Assumes nothing.
-use mathlib.Core.Path.{◌≡◌}
-use mathlib.Core.List.{List}
-use Prim.Native.Nat.{ℕ, ◌+◌}
-use native.Mathlib.Nat.{zero-add}
-use lib.Seq.{take-length}
-use Rattle.bytes.specs.Bytes.{slice, index_of}
+use Rattle.std.proofs.Common.{rules, tests, ◌≡◌, ℕ, ◌≤◌, cond, ltb, eqb, List, length, Some, None, unwrap_or, refl, ap, ◌∙◌, arith}
+use Rattle.std.proofs.lemmas.Bool.Decides.{nat_tests}
+use Rattle.std.specs.List.{position_or_len}
+use Rattle.std.proofs.lemmas.Iterator.{YieldsList-from_slice}
+use Rattle.std.proofs.lemmas.Iterator.Search.{position_from_yields_List}
 use Rattle.names.specs.declared.Name.{Name}
-use Rattle.names.specs.Names.{text_of, padded, name_of}
-use Rattle.names.proofs.Laws.{name_ends, length-padded}
+use Rattle.names.specs.Names.{name_of, text_of, padded}
+use Rattle.names.proofs.Laws.{name_ends, length-padded, length_text}
 use Rattle.names.proofs.name_of.Goals as goal
 
 abbrev name : List ℕ → ℕ → Name
 name bytes len = record { bytes = bytes; len = len }
 
--- all of the sixteen bytes are looked through
-whole : (t : ℕ) → slice 0 16 (padded (text_of t)) ≡ padded (text_of t)
-unfolding slice
-whole t = rw (← length-padded t) (take-length (padded (text_of t)))
+-- where the search for a place within n ends, or n
+ended : (place n : ℕ) → place ≤ n → unwrap_or (cond (ltb place n) (Some place) None) n ≡ place
+ended place n h = grind (arith, nat_tests)
 
-ends : (t : ℕ) {bytes : List ℕ} {len : ℕ} → bytes ≡ padded (text_of t) → len ≡ 0 + index_of 0 (slice 0 16 bytes) → name bytes len ≡ name_of t
-ends t found first = rw (first, found, whole t, zero-add (index_of 0 (padded (text_of t))), name_ends t)
+ends : (t : ℕ) {bytes : List ℕ} {len : ℕ} → bytes ≡ padded (text_of t)
+    → len ≡ unwrap_or (cond (ltb (position_or_len (λ byte. eqb byte 0) bytes) (length bytes)) (Some (position_or_len (λ byte. eqb byte 0) bytes)) None) 16
+    → name bytes len ≡ name_of t
+ends t found first =
+    rw (first, found, name_ends t, length-padded t, ended (length (text_of t)) 16 (length_text t)) refl
 
-pub returns-in-Some : goal.returns-in-Some
-returns-in-Some c = ends c.args.record_type c.search-spelled.ensures c.find.ensures.0
+pub returns : goal.returns
+returns c =
+    let bytes = c.search-spelled.result in
+    let e = position_from_yields_List (λ byte. eqb byte 0) _ _ c.position.result c.position.ensures.ran (YieldsList-from_slice bytes cc) (λ x b q k. search (rules, tests)) in
+    ends c.args.record_type c.search-spelled.ensures (c.unwrap_or-len.ensures ∙ ap (λ o. unwrap_or o 16) e)

@@ -19,12 +19,14 @@ work region t h e = rw (le-ltb most_input (length region) h) e
 pub returns-then-region-gt-MOST_INPUT : goal.returns-then-region-gt-MOST_INPUT
 unfolding listing
 returns-then-region-gt-MOST_INPUT c =
-    let a = c.args in
-    record { result_after = rw (c.refused.ensures, lt-ltb most_input (length a.region.now) (omega arith)); width_in_bounds = rw c.refused.ensures (omega arith) }
+    record {
+      result_after = rw (c.refused.ensures, lt-ltb most_input (length c.args.region.now) (omega arith));
+      width_in_bounds = rw c.refused.ensures (omega arith);
+    }
 
 pub returns : goal.returns
 returns c =
-    let listed = c in
-    let tested = listed in
-    let a = tested.args in
-    record { result_after = work a.region.now a.spans.now (omega (arith, tested.if-region-gt-MOST_INPUT.false)) listed.list.ensures.result_after; width_in_bounds = listed.list.ensures.width_in_bounds }
+    record {
+      result_after = work c.args.region.now c.args.spans.now (omega (arith, c.if-region-gt-MOST_INPUT.false)) c.list.ensures.result_after;
+      width_in_bounds = c.list.ensures.width_in_bounds;
+    }

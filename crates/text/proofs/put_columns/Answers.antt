@@ -25,19 +25,14 @@ loop-i-init c = (omega arith, rw (each_none column) (nothing _ _))
 
 pub put_column-next-requires : goal.put_column-next-requires
 put_column-next-requires c =
-    let loop = c.loop-i in
-    omega (arith, loop.invariant.1.few, keeps_length loop.invariant.1)
+    let inv = c.loop-i.invariant in
+    omega (arith, inv.1.few, keeps_length inv.1)
 
 pub loop-i-preserved : goal.loop-i-preserved
 loop-i-preserved c =
-    let put = c in
-    let looped = put in
-    let a = looped.args in
-    (omega arith, next-column a.t3 looped.loop-i.i (omega arith) looped.loop-i.invariant.1 put.put_column-next.ensures)
+    (omega arith, next-column c.args.numbers c.loop-i.i (omega arith) c.loop-i.invariant.1 c.put_column-next.ensures)
 
 pub returns : goal.returns
 returns c =
-    let looped = c in
-    let a = looped.args in
-    let all : looped.loop-i.i ≡ 5 = omega arith in
-    rw (take_all 5 a.t3 (omega arith)) at (rw all at looped.loop-i.invariant.1)
+    let all : c.loop-i.i ≡ 5 = omega arith in
+    rw (take_all 5 c.args.numbers (omega arith)) at (rw all at c.loop-i.invariant.1)

@@ -6,13 +6,7 @@ use Rattle.text.proofs.Pieces.{then}
 use Rattle.text.proofs.put_count.Goals as goal
 
 pub put_decimal-requires : goal.put_decimal-requires
-put_decimal-requires c =
-    let text = c in
-    let start = text in
-    omega (arith, text.put_text-next.ensures.ends, decimal_le 19 start.args.n (omega (arith, start.ranges.n)))
+put_decimal-requires c = omega (arith, c.put_text-next.ensures.ends, decimal_le 19 c.args.n (omega (arith, c.ranges.n)))
 
 pub returns : goal.returns
-returns c =
-    let number = c in
-    let text = number in
-    then text.put_text-next.ensures number.put_decimal.ensures
+returns c = then c.put_text-next.ensures c.put_decimal.ensures

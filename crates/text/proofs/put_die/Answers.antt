@@ -9,12 +9,7 @@ use Rattle.text.proofs.put_die.Goals as goal
 
 pub returns-then-die-eq-NO_DIE : goal.returns-then-die-eq-NO_DIE
 returns-then-die-eq-NO_DIE c =
-    let put = c in
-    let tested = put in
-    rw (eq-eqb tested.args.die no_die (omega (arith, tested.if-die-eq-NO_DIE.true))) (fewer most_column put.put_text.ensures (omega arith))
+    rw (eq-eqb c.args.die no_die (omega (arith, c.if-die-eq-NO_DIE.true))) (fewer most_column c.put_text.ensures (omega arith))
 
 pub returns : goal.returns
-returns c =
-    let put = c in
-    let tested = put in
-    rw (ne_eqb tested.args.die no_die (omega (arith, tested.if-die-eq-NO_DIE.false))) put.put_column.ensures
+returns c = rw (ne_eqb c.args.die no_die (omega (arith, c.if-die-eq-NO_DIE.false))) c.put_column.ensures

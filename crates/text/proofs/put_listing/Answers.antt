@@ -6,8 +6,4 @@ use Rattle.text.proofs.put_listing.Goals as goal
 
 pub returns : goal.returns
 unfolding text_of_listing
-returns c =
-    let last = c in
-    let rows = last in
-    let heading = rows in
-    then (then heading.put_text-heading.ensures rows.put_rows-rows.ensures) last.put_last.ensures
+returns c = then (then c.put_text-heading.ensures c.put_rows-rows.ensures) c.put_last.ensures

@@ -28,28 +28,16 @@ module _ (word : ℕ) {v : Version} {n : Name} (ve : v ≡ version_of word) (ne 
   short : length (take n.len n.bytes) ≤ 16
   short = rw text (length_text (record_type word))
 
--- the name, at the place where it is put
-abbrev start : tie.After-name-of → tie.Start
-start c = c
-
 pub slice_bounds-bytes-end : goal.slice_bounds-bytes-end
-slice_bounds-bytes-end c = let named = c in held (start named).args.word named.from_u32-version.ensures named.name_of-name.ensures
+slice_bounds-bytes-end c = held c.args.word c.from_u32-version.ensures c.name_of-name.ensures
 
 pub slice_bounds-put_text-end : goal.slice_bounds-put_text-end
-slice_bounds-put_text-end c =
-    let named = c in
-    counted (start named).args.word named.from_u32-version.ensures named.name_of-name.ensures
+slice_bounds-put_text-end c = counted c.args.word c.from_u32-version.ensures c.name_of-name.ensures
 
 pub put_text-requires : goal.put_text-requires
-put_text-requires c =
-    let named = c in
-    omega (arith, short (start named).args.word named.from_u32-version.ensures named.name_of-name.ensures)
+put_text-requires c = omega (arith, short c.args.word c.from_u32-version.ensures c.name_of-name.ensures)
 
 pub returns : goal.returns
 returns c =
-    let put = c in
-    let named = put in
-    let word = named.args.word in
-    let version = named.from_u32-version.ensures in
-    let e = text word version named.name_of-name.ensures in
-    fewer 16 (rw e at put.put_text.ensures) (length_text (record_type word))
+    let e = text c.args.word c.from_u32-version.ensures c.name_of-name.ensures in
+    fewer 16 (rw e at c.put_text.ensures) (length_text (record_type c.args.word))

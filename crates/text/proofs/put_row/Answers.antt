@@ -7,12 +7,6 @@ use Rattle.text.proofs.put_row.Goals as goal
 pub returns : goal.returns
 unfolding row_line
 returns c =
-    let end = c in
-    let name = end in
-    let die = name in
-    let socket = die in
-    let version = socket in
-    let columns = version in
-    let numbers = then columns.put_columns-columns.ensures version.put_version-version.ensures in
-    let origin = then (then numbers socket.put_column-socket.ensures) die.put_die-die.ensures in
-    then (then origin name.put_name-name.ensures) end.put_text.ensures
+    let numbers = then c.put_columns-columns.ensures c.put_version-version.ensures in
+    let origin = then (then numbers c.put_column-socket.ensures) c.put_die-die.ensures in
+    then (then origin c.put_name-name.ensures) c.put_text.ensures

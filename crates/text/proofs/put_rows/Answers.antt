@@ -32,14 +32,9 @@ put_row-next-requires c =
 
 pub loop-i-preserved : goal.loop-i-preserved
 loop-i-preserved c =
-    let put = c in
-    let got = put in
-    let looped = got in
-    let a = looped.args in
-    (omega arith, next-line a.spans.now looped.loop-i.i got.get.ensures looped.loop-i.invariant.1 put.put_row-next.ensures)
+    (omega arith, next-line c.args.spans.now c.loop-i.i c.get.ensures c.loop-i.invariant.1 c.put_row-next.ensures)
 
 pub returns : goal.returns
 returns c =
-    let looped = c in
-    let all : looped.loop-i.i ≡ looped.args.rows = omega arith in
-    rw all at looped.loop-i.invariant.1
+    let all : c.loop-i.i ≡ c.args.rows = omega arith in
+    rw all at c.loop-i.invariant.1

@@ -4,7 +4,4 @@ use Rattle.text.proofs.Pieces.{then}
 use Rattle.text.proofs.put_version.Goals as goal
 
 pub returns : goal.returns
-returns c =
-    let space = c in
-    let digits = space in
-    then digits.put_hex-digits.ensures space.put_text.ensures
+returns c = then c.put_hex-digits.ensures c.put_text.ensures

@@ -5,11 +5,7 @@ use Rattle.text.proofs.Pieces.{fewer}
 use Rattle.text.proofs.put_whole.Goals as goal
 
 pub returns-then-whole : goal.returns-then-whole
-returns-then-whole c =
-    let put = c in
-    rw put.if-whole.true put.put_text.ensures
+returns-then-whole c = rw c.if-whole.true c.put_text.ensures
 
 pub returns : goal.returns
-returns c =
-    let put = c in
-    rw put.if-whole.false (fewer 3 put.put_text-2.ensures (omega arith))
+returns c = rw c.if-whole.false (fewer 3 c.put_text-2.ensures (omega arith))
