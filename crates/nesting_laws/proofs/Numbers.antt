@@ -108,7 +108,7 @@ module _ {n : ℕ} (c : ℕ) (rows : List Span) where
 abbrev pub Part : ℕ → List Span → ℕ → List Span → Type 0
 Part m part n rows = (x : ℕ) (s : Span) → At m part x s → At n rows x s
 
-pub ancestor_joined : {n p q i : ℕ} {rows : List Span} → Ancestor n rows p q → Ancestor n rows q i → Ancestor n rows p i
+pub ancestor_joined : {n p q : ℕ} {rows : List Span} {i : ℕ} → Ancestor n rows p q → Ancestor n rows q i → Ancestor n rows p i
 ancestor_joined a (direct d) = further a d
 ancestor_joined a (further b d) = further (ancestor_joined a b) d
 

@@ -24,7 +24,7 @@ unfolding starts_with
 none guid s same i h = rw (drop_of_length-le guid {i = i} h) (and-true same)
 
 pub loop-i-init : goal.loop-i-init
-loop-i-init c = (omega arith, ap (λ (k : ℕ). starts_with c.args.t3 (drop k c.args.s.now)) (add-zero c.args.at))
+loop-i-init c = (omega arith, ap (λ (k : ℕ). starts_with c.args.guid (drop k c.args.s.now)) (add-zero c.args.at))
 
 pub loop-i-preserved : goal.loop-i-preserved
 loop-i-preserved c =
@@ -33,9 +33,9 @@ loop-i-preserved c =
     let i = l.loop-i.i in
     let step : i + 1 ≡ suc i = omega arith in
     let step-at : a.at + (i + 1) ≡ suc (a.at + i) = omega arith in
-    (omega arith, next a.t3 a.s.now l.loop-i.same (omega arith) (omega arith) step step-at ∙ l.loop-i.invariant.1)
+    (omega arith, next a.guid a.s.now l.loop-i.same (omega arith) (omega arith) step step-at ∙ l.loop-i.invariant.1)
 
 pub returns : goal.returns
 returns c =
     let l = c in
-    sym (none l.args.t3 _ l.loop-i.same l.loop-i.i (omega arith)) ∙ l.loop-i.invariant.1
+    sym (none l.args.guid _ l.loop-i.same l.loop-i.i (omega arith)) ∙ l.loop-i.invariant.1
