@@ -7,8 +7,7 @@ ghost use Rattle.crashlog.specs.Containers.{sections_out, section_out, normalise
 use cper_sections::number_of;
 
 // The kept sections as rows of three numbers; how many rows were written.
-#[unsafe(no_mangle)]
-pub extern "C" fn crashlog_sections(cper: &[u8], table: &mut [u32], rows: &mut u64) -> u32
+pub fn crashlog_sections(cper: &[u8], table: &mut [u32], rows: &mut u64) -> u32
     ensures { (table.new, rows.new, result) ≡ sections_out (sections_of cper.now table.old) }
 {
     let listed = cper_sections::sections(cper, table);
@@ -18,8 +17,7 @@ pub extern "C" fn crashlog_sections(cper: &[u8], table: &mut [u32], rows: &mut u
 }
 
 // Where the body of one kept section is: its offset and its length.
-#[unsafe(no_mangle)]
-pub extern "C" fn crashlog_section(cper: &[u8], row: u32, told: &mut [u64; 2]) -> u32
+pub fn crashlog_section(cper: &[u8], row: u32, told: &mut [u64; 2]) -> u32
     ensures { (told.new, result) ≡ section_out (place_of cper.now row) }
 {
     let place = cper_sections::section_at(cper, row);
@@ -29,8 +27,7 @@ pub extern "C" fn crashlog_section(cper: &[u8], row: u32, told: &mut [u64; 2]) -
 }
 
 // The normal form; how many bytes were written.
-#[unsafe(no_mangle)]
-pub extern "C" fn crashlog_normalise(cper: &[u8], out: &mut [u8], length: &mut u64) -> u32
+pub fn crashlog_normalise(cper: &[u8], out: &mut [u8], length: &mut u64) -> u32
     ensures { (out.new, length.new, result) ≡ normalised_out (normalised_of cper.now out.old) }
 {
     let normalised = cper_normal::normalise(cper, out);

@@ -8,8 +8,7 @@ use c_header::codec::{encode, header_at, see};
 
 // The header at the start of some bytes. What lies behind `header` is written with answer 0 alone.
 // `told` gets the declared bytes, the header's size, the flags, the type of answer 4, and how the records end where they do.
-#[unsafe(no_mangle)]
-pub extern "C" fn crashlog_decode(
+pub fn crashlog_decode(
     bytes: &[u8],
     rules: &[u32],
     header: &mut CHeader,
@@ -26,8 +25,7 @@ pub extern "C" fn crashlog_decode(
 }
 
 // A header's bytes into an output, which a refusal leaves as it is, and their length.
-#[unsafe(no_mangle)]
-pub extern "C" fn crashlog_encode(
+pub fn crashlog_encode(
     header: &CHeader,
     rules: &[u32],
     out: &mut [u8],

@@ -1,4 +1,4 @@
-// The C library: exported functions over slices, numbers and plain structs, each a thin call of a proved function.
+// The functions that C is to have, over slices, numbers and plain structs, each a thin call of a proved function; crashlog_c exports them.
 // A call gives its answer by document 01's number; what else it tells is written into what is lent for it. include/crashlog.h documents them for C.
 #![tactic(auto)]
 
@@ -25,8 +25,7 @@ fn tell(listing: Listing, told: &mut [u64; 5]) -> u32
 }
 
 // The nested listing of a region.
-#[unsafe(no_mangle)]
-pub extern "C" fn crashlog_list(
+pub fn crashlog_list(
     region: &[u8],
     rules: &[u32],
     limit: u64,
@@ -39,8 +38,7 @@ pub extern "C" fn crashlog_list(
 }
 
 // The same by a walk for a small stack.
-#[unsafe(no_mangle)]
-pub extern "C" fn crashlog_list_flat(
+pub fn crashlog_list_flat(
     region: &[u8],
     rules: &[u32],
     limit: u64,
@@ -53,8 +51,7 @@ pub extern "C" fn crashlog_list_flat(
 }
 
 // The listing of all regions of a CPER whose sections have the record identifier asked for.
-#[unsafe(no_mangle)]
-pub extern "C" fn crashlog_list_cper(
+pub fn crashlog_list_cper(
     cper: &[u8],
     record_id: &[u8; 16],
     rules: &[u32],
@@ -71,16 +68,14 @@ pub extern "C" fn crashlog_list_cper(
 }
 
 // The length of a record type's name, which is written where it fits.
-#[unsafe(no_mangle)]
-pub extern "C" fn crashlog_name(record_type: u32, out: &mut [u8]) -> u32
+pub fn crashlog_name(record_type: u32, out: &mut [u8]) -> u32
     ensures { (out.new, result) ≡ name_out (text_of record_type) out.old }
 {
     names::write(record_type, out)
 }
 
 // How many numbers Intel's rule table has, which is written where it fits.
-#[unsafe(no_mangle)]
-pub extern "C" fn crashlog_intel_rules(out: &mut [u32]) -> u32
+pub fn crashlog_intel_rules(out: &mut [u32]) -> u32
     ensures { (out.new, result) ≡ intel_out out.old }
 {
     rules::intel::write(out)

@@ -6,8 +6,7 @@ ghost use Rattle.receiver.specs.Calls.{started_out, fed_out, finished_out};
 use receiver::Receiver;
 
 // Starts a receiver, whatever it was before.
-#[unsafe(no_mangle)]
-pub extern "C" fn crashlog_receiver_start(receiver: &mut Receiver, rules: &[u32]) -> u32
+pub fn crashlog_receiver_start(receiver: &mut Receiver, rules: &[u32]) -> u32
     ensures { (receiver.new, result) ≡ started_out receiver.old rules.now }
 {
     let turned = receiver::start(*receiver, rules);
@@ -16,8 +15,7 @@ pub extern "C" fn crashlog_receiver_start(receiver: &mut Receiver, rules: &[u32]
 }
 
 // Takes a piece: the rows of the records that are all in with it go to the table's start, and `rows` tells how many they are.
-#[unsafe(no_mangle)]
-pub extern "C" fn crashlog_receiver_feed(
+pub fn crashlog_receiver_feed(
     receiver: &mut Receiver,
     piece: &[u8],
     spans: &mut [u32],
@@ -39,8 +37,7 @@ pub extern "C" fn crashlog_receiver_feed(
 }
 
 // The end of the bytes: a last short row, if any, and what is told of the walk.
-#[unsafe(no_mangle)]
-pub extern "C" fn crashlog_receiver_finish(
+pub fn crashlog_receiver_finish(
     receiver: &mut Receiver,
     spans: &mut [u32],
     told: &mut [u64; 5],

@@ -7,7 +7,9 @@ use crate::case::{
     Case, ID_BYTES, MOST_CASE, MOST_INPUT, bytes_within, case_of, first_words, id_of, is_sound,
     left_of, lengths_of, part, repeat, rules_of, stored_of, told_of, u32_in,
 };
-use libc::STDOUT_FILENO;
+use std::io::Read;
+use std::rt::Files;
+use std::{fs, io};
 
 mod agree;
 mod calls;
@@ -133,10 +135,22 @@ fn run(kind: Kind, buffer: &[u8], size: usize) -> Outcome {
     Outcome::Differs(u32_in(bytes, 0) as u64)
 }
 
+// Reads until a buffer is full or the file ends, and tells how many bytes came. A read that fails ends the file.
+fn read_full(file: &mut impl Read, buffer: &mut [u8]) -> usize {
+    let mut count = 0;
+    while count < buffer.len() {
+        match file.read(&mut buffer[count..]) {
+            Ok(0) | Err(_) => return count,
+            Ok(more) => count += more,
+        }
+    }
+    count
+}
+
 // Reads the next case to the start of a buffer.
-fn read_case(fd: i32, buffer: &mut [u8]) -> Next {
+fn read_case(file: &mut impl Read, buffer: &mut [u8]) -> Next {
     let mut size = [0u8; 4];
-    let got = io::read_full(fd, &mut size);
+    let got = read_full(file, &mut size);
     if got == 0 {
         return Next::End;
     }
@@ -145,16 +159,16 @@ fn read_case(fd: i32, buffer: &mut [u8]) -> Next {
     }
     let bytes = u32_in(&size, 0) as usize;
     let end = bytes_within(bytes, buffer);
-    if io::read_full(fd, &mut buffer[..end]) < bytes {
+    if read_full(file, &mut buffer[..end]) < bytes {
         return Next::Cut;
     }
     Next::Bytes(bytes)
 }
 
 // Reads the next case and runs it.
-fn run_next(kind: Kind, fd: i32) -> Outcome {
+fn run_next(kind: Kind, file: &mut impl Read) -> Outcome {
     let mut buffer = [0u8; MOST_CASE];
-    let next = read_case(fd, &mut buffer);
+    let next = read_case(file, &mut buffer);
     match next {
         Next::Bytes(size) => run(kind, &buffer, size),
         Next::Cut => Outcome::Differs(0),
@@ -168,7 +182,7 @@ fn earlier(differ: u64, old: u64, new: u64) -> u64 {
 }
 
 // Runs the cases of a file.
-fn run_cases(kind: Kind, fd: i32) -> Count {
+fn run_cases(kind: Kind, file: &mut impl Read) -> Count {
     let mut count = Count {
         agree: 0,
         differ: 0,
@@ -177,7 +191,7 @@ fn run_cases(kind: Kind, fd: i32) -> Count {
     };
     let mut turn = 0;
     while turn < MOST_CASES {
-        let outcome = run_next(kind, fd);
+        let outcome = run_next(kind, file);
         turn = turn + 1;
         match outcome {
             Outcome::End => {
@@ -197,66 +211,49 @@ fn run_cases(kind: Kind, fd: i32) -> Count {
 }
 
 // Where the answer of a case comes from.
-fn print_source(source: u64) {
+fn source_name(source: u64) -> &'static str {
     match source {
-        1 => {
-            io::write_all(STDOUT_FILENO, b"the Rust");
-        }
-        2 => {
-            io::write_all(STDOUT_FILENO, b"cut from the Rust's whole listing");
-        }
-        3 => {
-            io::write_all(STDOUT_FILENO, b"inverse of what the Rust decoded");
-        }
-        4 => {
-            io::write_all(STDOUT_FILENO, b"a sentence of document 01 or 02");
-        }
-        _ => {
-            io::write_all(STDOUT_FILENO, b"the case is not sound");
-        }
+        1 => "the Rust",
+        2 => "cut from the Rust's whole listing",
+        3 => "inverse of what the Rust decoded",
+        4 => "a sentence of document 01 or 02",
+        _ => "the case is not sound",
     }
 }
 
-fn report(file: &[u8], count: Count) {
-    io::write_all(STDOUT_FILENO, file);
-    io::write_all(STDOUT_FILENO, b": ");
-    io::print_decimal(STDOUT_FILENO, count.agree);
-    io::write_all(STDOUT_FILENO, b" agree, ");
-    io::print_decimal(STDOUT_FILENO, count.differ);
-    io::write_all(STDOUT_FILENO, b" differ\n");
-    if count.differ == 0 {
-        return;
+fn report(rt: &impl Print, name: &str, count: Count) -> io::Result<()> {
+    let agree = count.agree;
+    let differ = count.differ;
+    println!(rt; "{name}: {agree} agree, {differ} differ")?;
+    if differ == 0 {
+        return Ok(());
     }
-    io::write_all(STDOUT_FILENO, b"  the first is case ");
-    io::print_decimal(STDOUT_FILENO, count.first);
-    io::write_all(STDOUT_FILENO, b" (");
-    print_source(count.source);
-    io::write_all(STDOUT_FILENO, b")\n");
+    let first = count.first;
+    let source = source_name(count.source);
+    println!(rt; "  the first is case {first} ({source})")
 }
 
 // Runs the cases of a file, and prints how it went.
-fn replay(kind: Kind, file: &[u8]) {
-    let fd = os::open_read(file);
-    if fd < 0 {
-        io::write_all(STDOUT_FILENO, file);
-        io::write_all(STDOUT_FILENO, b": can't be read\n");
-        return;
+fn replay(rt: &(impl Files + Print), kind: Kind, name: &str) -> io::Result<()> {
+    match fs::open(rt, name) {
+        Ok(mut file) => {
+            let count = run_cases(kind, &mut file);
+            report(rt, name, count)
+        }
+        Err(_) => println!(rt; "{name}: can't be read"),
     }
-    let count = run_cases(kind, fd);
-    libc::close(fd);
-    report(file, count);
 }
 
-fn main() {
-    replay(Kind::Headers, b"headers");
-    replay(Kind::Encodes, b"encodes");
-    replay(Kind::Listings, b"listings");
-    replay(Kind::Texts, b"texts");
-    replay(Kind::Tables, b"tables");
-    replay(Kind::Sections, b"sections");
-    replay(Kind::NormalForms, b"normal_forms");
-    replay(Kind::Names, b"names");
-    replay(Kind::Receptions, b"receptions");
-    replay(Kind::CperListings, b"cper_listings");
-    replay(Kind::CperTexts, b"cper_texts");
+fn main(rt: HostRuntime) -> io::Result<()> {
+    replay(&rt, Kind::Headers, "headers")?;
+    replay(&rt, Kind::Encodes, "encodes")?;
+    replay(&rt, Kind::Listings, "listings")?;
+    replay(&rt, Kind::Texts, "texts")?;
+    replay(&rt, Kind::Tables, "tables")?;
+    replay(&rt, Kind::Sections, "sections")?;
+    replay(&rt, Kind::NormalForms, "normal_forms")?;
+    replay(&rt, Kind::Names, "names")?;
+    replay(&rt, Kind::Receptions, "receptions")?;
+    replay(&rt, Kind::CperListings, "cper_listings")?;
+    replay(&rt, Kind::CperTexts, "cper_texts")
 }

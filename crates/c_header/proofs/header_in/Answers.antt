@@ -17,7 +17,4 @@ unfolding header_in
 took h e g s = ap₂ (λ (ok : Bool) (t : HeaderType). taken ok h t) s (g ∙ ap type_of e)
 
 pub returns : goal.returns
-returns c =
-    let type = c in
-    let fields = type in
-    took fields.args.c fields.fields_in.ensures type.type_of-header_type.ensures c.is_sound.ensures
+returns c = took c.args.c c.fields_in.ensures c.type_of-header_type.ensures c.is_sound.ensures

@@ -13,6 +13,4 @@ unfolding sound
 tested h e = rw e
 
 pub returns : goal.returns
-returns c =
-    let args = c.args in
-    tested args.c c.has_complete.ensures
+returns c = tested c.args.c c.has_complete.ensures

@@ -51,14 +51,8 @@ module _ (rules : List ℕ) (h : CHeader) (out : List ℕ) {t : Taken} (is : t �
 
 pub returns-then-not-taken : goal.returns-then-not-taken
 returns-then-not-taken c =
-    let taken = c in
-    let a = taken.args in
-    none a.rules.now a.header a.out.now taken.header_in-taken.ensures (not-true _ c.if-not-taken.true) c.valid.ensures c.refusal.ensures
+    none c.args.rules.now c.args.header c.args.out.now c.header_in-taken.ensures (not-true _ c.if-not-taken.true) c.valid.ensures c.refusal.ensures
 
 pub returns : goal.returns
 returns c =
-    let end = c in
-    let test = end in
-    let taken = test in
-    let a = taken.args in
-    encoded a.rules.now a.header a.out.now taken.header_in-taken.ensures (not-false _ test.if-not-taken.false) end.encode-end.ensures c.number_of.ensures
+    encoded c.args.rules.now c.args.header c.args.out.now c.header_in-taken.ensures (not-false _ c.if-not-taken.false) c.encode-end.ensures c.number_of.ensures

@@ -1,3 +1,0 @@
-mod Told
-pub mod Fields
-pub mod Turned
