@@ -1,21 +1,21 @@
 -- What has come, taken in behind the kept bytes: it lies there from its start on, its header is that of all, and taking it in again changes nothing.
 -- By how long the parts are; a header is decided by 536 bytes. Assumes nothing.
 use mathlib.Core.Path.{◌≡◌, sym, ap, ap₂, ◌∙◌}
-use mathlib.Core.List.{List, [], ◌++◌, append_assoc, append-nil}
+use mathlib.Core.List.{List, ◌++◌, append_assoc, append-nil}
 use mathlib.Core.Bool.{Bool, true, false, cond}
 use mathlib.Core.Logic.{⊎_elim}
 use Prim.Native.Nat.{ℕ, ◌+◌, ◌-◌, min, ◌≤◌, ◌<◌}
 use native.Mathlib.Omega.{arith}
 use lib.Dec.{eqb}
-use lib.ListN.{length, take, drop, replicate, length-append, length-take, length-drop, take-append-drop, drop_of_length-le}
-use lib.Seq.{length-take-le, take_all, take-length, take_at, take-append-le, take-append-add, drop-append_seam, drop-drop}
+use lib.ListN.{length, take, drop, replicate, length-append, length-take, length-drop, take-append-drop}
+use lib.Seq.{length-take-le, take_all, take_at, take-append-le, take-append-add, drop-append_seam, drop-drop}
 use borrow.Rule.Slice.PartMut.{put_mid}
 use Rattle.basics.proofs.Orders.{le_or_lt}
 use Rattle.header_judge.specs.Head.{head_of}
 use Rattle.header_judge.proofs.Longer.{head_decided}
 use Rattle.receiver.specs.Calls.{most_kept, kept_of, taken_in}
 use Rattle.receiver.specs.Steps.{came_bytes}
-use Rattle.receiver.proofs.Kept.{take-least}
+use Rattle.receiver.proofs.Kept.{take_least}
 
 -- ---- some bytes at the start of others
 
@@ -96,7 +96,7 @@ module _ (most held : ℕ) (kept piece : List ℕ) (long : length kept ≡ most)
         let same : held ≡ len = omega arith in
         let many : more ≡ min (length piece) (most - held) = omega arith in
         few_first few
-        ∙ ap₂ (λ (xs ys : List ℕ). xs ++ ys) (ap (λ (n : ℕ). take n kept) same) (sym (ap (λ (n : ℕ). take n piece) many ∙ take-least (most - held) piece)))
+        ∙ ap₂ (λ (xs ys : List ℕ). xs ++ ys) (ap (λ (n : ℕ). take n kept) same) (sym (ap (λ (n : ℕ). take n piece) many ∙ take_least (most - held) piece)))
         (λ (many : most < held).
         let all : len ≡ most = omega arith in
         let none : more ≡ 0 = omega arith in

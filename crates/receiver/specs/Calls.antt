@@ -1,5 +1,5 @@
 -- The receiver's three calls (document 02, C-11) on the receiver as it is lent, refusals first.
-use Rattle.std.specs.Prelude.{ℕ, ◌+◌, ◌-◌, ◌*◌, ◌/◌, List, [], ◌++◌, Bool, cond, ◌&&◌, ◌||◌, eqb, leb, ltb, length, take, drop, replicate}
+use Rattle.std.specs.Prelude.{ℕ, ◌+◌, ◌-◌, ◌*◌, ◌/◌, List, ◌++◌, Bool, cond, ◌&&◌, ◌||◌, eqb, leb, ltb, length, take, drop, replicate}
 use Rattle.answers.specs.Numbers as answer
 use Rattle.answers.specs.Numbers.{most_bytes}
 use Rattle.rules.specs.Rules.{valid_of}

@@ -1,8 +1,6 @@
 -- `see` tells whether a call can go on from a state and its kept bytes, and the flags of their word.
 -- The kept bytes tell the header, and so whether its record is all in. Assumes nothing.
-use mathlib.Core.Path.{◌≡◌, sym, ◌∙◌}
-use mathlib.Core.Bool.{true}
-use Rattle.receiver.specs.Calls.{sound}
+use mathlib.Core.Path.{sym, ◌∙◌}
 use Rattle.receiver.proofs.Bounds.{bounds_range, sound_bounds, unusable, usable_by, usable_empty}
 use Rattle.receiver.proofs.see.Goals as goal
 

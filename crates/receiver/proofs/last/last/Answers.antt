@@ -68,8 +68,7 @@ at_head-requires c =
     let rows = q.rows in
     let offset = q.offset in
     let taken = q.taken in
-    let room = c.requires.2 in
-    (
+    let room = c.requires.2 in (
       head.head_bounds,
       ap (bytes_in (held_in a.state)) (head.value ∙ is) ∙ waits a.state a.rules.now a.kept.now c.requires.0 c.requires.1,
       omega arith,

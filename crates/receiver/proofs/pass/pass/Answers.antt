@@ -71,9 +71,9 @@ loop-at-preserved c =
       within = omega arith;
       counted = omega arith;
       ends =
-        l.invariant.ends
-        ∙ from_record rules a.bytes.now a.base l.rows l.whole l.spans l.at _ r.is some fits
-        ∙ rw (← put.spans_after, ← put.value, ← declares);
+          l.invariant.ends
+          ∙ from_record rules a.bytes.now a.base l.rows l.whole l.spans l.at _ r.is some fits
+          ∙ rw (← put.spans_after, ← put.value, ← declares);
     }
 
 pub returns : goal.returns

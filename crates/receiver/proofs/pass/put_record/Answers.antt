@@ -1,6 +1,6 @@
 -- `put_record` writes the row of a record that is all in, and tells whether it leaves the listing whole.
 -- The record's bytes being in, its header is there; a Box that is all in is left unopened where its header exceeds it. Assumes nothing.
-use mathlib.Core.Path.{◌≡◌, ap, ◌∙◌}
+use mathlib.Core.Path.{◌≡◌, ◌∙◌}
 use mathlib.Core.List.{List}
 use mathlib.Core.Bool.{Bool, not, ◌&&◌}
 use Prim.Native.Nat.{ℕ, ◌≤◌, ◌<◌}

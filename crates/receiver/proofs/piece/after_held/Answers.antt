@@ -13,7 +13,7 @@ use Rattle.header_judge.specs.Steps.{Known}
 use Rattle.header_judge.proofs.Heads.{head_known}
 use Rattle.receiver.specs.Calls.{most_kept, kept_of}
 use Rattle.receiver.specs.Steps.{bytes_in, moved_of, came_bytes}
-use Rattle.receiver.proofs.Taken.{kept_length, head_taken, taken_stays}
+use Rattle.receiver.proofs.Taken.{head_taken, taken_stays}
 use Rattle.receiver.proofs.Records.{Read, read_in, bytes_within}
 use Rattle.receiver.proofs.Moves.{came_length, held_kept, small_kept, record_then, none_then}
 use Rattle.receiver.proofs.piece.after_held.Goals as goal
@@ -101,8 +101,7 @@ walk_on-requires-clause-blocks_bound c =
     let all = c.take_in-len.auto.kept in
     let same = c.put_record-keeps.auto.spans in
     let declared : c.bytes_in-declared.result ≤ c.args.held + length c.args.piece.now = rw c.bytes_in-declared.ensures.value (bytes_within _ _) in
-    let small = c.if-declared-held.false in
-    (
+    let small = c.if-declared-held.false in (
       bounds.0,
       simp (tail_part, length-drop) (omega arith),
       simp (tail_part, length-drop) (omega arith),

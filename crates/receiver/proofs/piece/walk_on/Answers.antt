@@ -1,8 +1,7 @@
 -- `walk_on` gives what the records of some bytes leave.
 -- The pass ends within the bytes, and the rest of them is kept. Assumes nothing.
-use Prim.Native.Nat.{◌+◌, ◌*◌, ◌≤◌}
+use Prim.Native.Nat.{◌*◌}
 use native.Mathlib.Omega.{arith}
-use lib.ListN.{length}
 use Rattle.rules.specs.Columns.{rules_in}
 use Rattle.receiver.proofs.Passes.{pass_within}
 use Rattle.receiver.proofs.Moves.{moved_pass}
