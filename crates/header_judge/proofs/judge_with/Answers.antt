@@ -1,6 +1,6 @@
 -- `judge_with` gives what the header is, where its word and flags are known.
 -- By its tests. Assumes nothing.
-use mathlib.Core.Path.{◌≡◌, sym, ap, ◌∙◌}
+use mathlib.Core.Path.{sym, ap, ◌∙◌}
 use Prim.Native.Nat.{◌<◌}
 use native.Mathlib.Omega.{arith}
 use Rattle.header_judge.specs.Head.{lacking}

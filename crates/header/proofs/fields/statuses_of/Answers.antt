@@ -1,6 +1,6 @@
 -- `statuses_of` gives the status words of a layout.
 -- Only type 6 has some. Assumes nothing.
-use mathlib.Core.Path.{◌≡◌, sym, ap, ◌∙◌}
+use mathlib.Core.Path.{sym, ap, ◌∙◌}
 use Prim.Native.Nat.{ℕ}
 use Rattle.header_judge.specs.declared.Layout.{Layout}
 use Rattle.layout.specs.Fields.{read_all}

@@ -1,11 +1,10 @@
 -- `origin_of` gives the socket and the die that a header names.
 -- By its layout, whose bytes are there because a size was found. Assumes nothing.
-use mathlib.Core.Path.{◌≡◌, refl, sym, ◌∙◌}
+use mathlib.Core.Path.{◌≡◌, refl}
 use mathlib.Core.List.{List}
-use Prim.Native.Nat.{ℕ, ◌≤◌, ◌<◌}
+use Prim.Native.Nat.{ℕ}
 use native.Mathlib.Omega.{arith}
-use lib.ListN.{length}
-use Rattle.header_judge.specs.Head.{lacking, size_for, size_of, count_of, layout_of, unnamed, origin_in, origin_of}
+use Rattle.header_judge.specs.Head.{layout_of, unnamed, origin_in, origin_of}
 use Rattle.header_judge.specs.declared.Layout.{Layout}
 use Rattle.header_judge.specs.declared.Layout.TheVariants.{Zero, One, Two, Three, Four, Five, Six, LegacyServer, LegacyGpu, Bad}
 use Rattle.header_judge.specs.declared.origin.Origin.{Origin}
