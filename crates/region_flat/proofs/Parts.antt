@@ -31,19 +31,7 @@ unfolding flags_of rules_of with_rules
 no_rules [] word e = refl
 no_rules (r ∷ rs) word e = absurd (omega arith)
 
--- the flags that are known of a word are known of the same word
-pub known_same : (rules : List ℕ) (word last flags : ℕ) → word ≡ last → Known rules last flags → Known rules word flags
-known_same rules word last flags e known n = known (λ z. n (e ∙ z)) ∙ ap (flags_of rules) (sym e)
-
 -- ---- no byte is declared
-
-pub nothing_bounds : (word size : ℕ) → RowBounds (nothing_at word size)
-nothing_bounds word size = by (eqb size no_size) (eqb size lacking)
-  where
-    by : (j k : Bool) → RowBounds (cond j (Nothing BadType (header_type word)) (cond k (Nothing BadHeader 0) (Nothing SizeZero 0)))
-    by true k = tt
-    by false true = tt
-    by false false = tt
 
 module _ (level parent offset : ℕ) (bs : List ℕ) (word flags size : ℕ) (there : word ≡ no_word → ⊥) (is_size : size ≡ size_of bs word flags) where
   pub finds_none : (room rows : ℕ) (t : List ℕ) → declared_by (head_with bs word flags) ≡ 0

@@ -47,13 +47,6 @@ module _ (room rows : ℕ) (t : List ℕ) {v : Try} where
   unfolding found
   finds_row e h = rw (e, lt-leb room rows h)
 
-pub sizeless_bounds : (word size : ℕ) → RowBounds (sizeless word size)
-sizeless_bounds word size = by (eqb size no_size)
-  where
-    by : (b : Bool) → RowBounds (cond b (Nothing BadType (header_type word)) (Nothing BadHeader 0))
-    by true = tt
-    by false = tt
-
 -- ---- the try from what was found
 
 -- the try that a row comes from

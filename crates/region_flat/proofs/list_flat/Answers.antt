@@ -9,22 +9,16 @@ use Rattle.region.specs.Listing.{listed}
 use Rattle.region.proofs.Shows.{listed_long, listed_rules, listed_run, with_fit}
 use Rattle.region_flat.proofs.list_flat.Goals as goal
 
-pub returns-then-region-gt-MOST_BYTES : goal.returns-then-region-gt-MOST_BYTES
-returns-then-region-gt-MOST_BYTES c =
+pub returns-then-region-gt-MOST_BYTES-clause-result_after : goal.returns-then-region-gt-MOST_BYTES-clause-result_after
+returns-then-region-gt-MOST_BYTES-clause-result_after c =
     let a = c.args in
-    let e : ◌≡◌ {A = List ℕ × Listing} (a.spans.now, c.refused.result) (listed a.rules.now a.region.now a.limit a.spans.now) =
-        rw c.refused.ensures (listed_long a.rules.now a.region.now a.limit a.spans.now (omega arith)) in
-    let p = with_fit a.rules.now a.region.now a.limit a.spans.now e in
-    record { result_after = p.0; width_in_bounds = p.1 }
+    rw c.refused.ensures (listed_long a.rules.now a.region.now a.limit a.spans.now (omega arith))
 
-pub returns-then-not-valid : goal.returns-then-not-valid
-returns-then-not-valid c =
+pub returns-then-not-valid-clause-result_after : goal.returns-then-not-valid-clause-result_after
+returns-then-not-valid-clause-result_after c =
     let a = c.args in
-    let e : ◌≡◌ {A = List ℕ × Listing} (a.spans.now, c.refused-then-not-valid.result) (listed a.rules.now a.region.now a.limit a.spans.now) =
-        rw c.refused-then-not-valid.ensures
-        (listed_rules a.rules.now a.region.now a.limit a.spans.now (omega arith) (sym c.valid.ensures ∙ c.if-not-valid.true)) in
-    let p = with_fit a.rules.now a.region.now a.limit a.spans.now e in
-    record { result_after = p.0; width_in_bounds = p.1 }
+    rw c.refused-then-not-valid.ensures
+    (listed_rules a.rules.now a.region.now a.limit a.spans.now (omega arith) (sym c.valid.ensures ∙ c.if-not-valid.true))
 
 pub returns : goal.returns
 returns c =

@@ -12,7 +12,7 @@ use Rattle.region_try.proofs.Whole.{box_shut, box_header, box_opens}
 use Rattle.region_try.specs.declared.Found.{Found}
 use Rattle.region_try.specs.declared.Found.TheVariants.{Row}
 use Rattle.region_walk.specs.Steps.{limit_in, room_in, table_in, going}
-use Rattle.region_walk.proofs.Turn.{held_fits, child_counts, Place, placed, rest, entire, rest_start, rest_same, rest_end, rest_spent, Tried, tried_at, stop_turn, full_turn, row_free, row_bounds, row_held, plain_turn, box_turn, box_cut}
+use Rattle.region_walk.proofs.Turn.{held_fits, child_counts, Place, placed, rest, entire, rest_start, rest_same, rest_end, rest_spent, Tried, tried_at, stop_turn, full_turn, row_free, row_held, plain_turn, box_turn, box_cut}
 use Rattle.region_walk.proofs.+box_walk_region_walk.Goals.{region_walk-Joined-word-last, region_walk-In-Row, region_walk-then-word-last, region_walk-else-word-last, region_walk-then-boxed+in-Going, region_walk-else-boxed}
 use Rattle.region_walk.proofs.+box_walk_region_walk.Goals as goal
 
@@ -32,11 +32,6 @@ box_walk-returns-then-held-size t c =
     rw (c.counts-then-held-size.ensures, box_header a.whole a.levels a.size n (omega arith) c.requires.0.deep)
     (run_empty (limit_in a.bounds.now) (room_in a.bounds.now) _ (going a.spans.now (a.row + 1) a.tries (a.whole && leb a.size n))
     (box_short (table_in a.rules.now a.bounds.now) a.levels a.held.now a.base a.size a.row (omega arith)))
-
-pub box_walk-region_walk-child-requires : goal.box_walk-region_walk-child-requires
-box_walk-region_walk-child-requires t c =
-    let w = c.requires.0 in
-    (omega arith, record { offsets = simp (tail_part, length-drop) (omega arith); deep = omega arith; sound = w.sound })
 
 pub box_walk-returns : goal.box_walk-returns
 box_walk-returns t c =
@@ -100,12 +95,6 @@ module _ (t : ℕ) (c : region_walk-In-Row t) (flags : Known (table_in c.args.ru
   held : c.loop-at.at + c.in-Row.held ≤ length c.args.bytes.now
   held = row_held turn c.loop-at.whole refl
 
-  sizes : (0 < c.in-Row.declared) × (c.in-Row.declared ≤ 524280) × (0 < c.in-Row.size) × (c.in-Row.size ≤ 536)
-  sizes = row_bounds turn c.loop-at.whole refl
-
-pub region_walk-try_at-tried-requires : goal.region_walk-try_at-tried-requires
-region_walk-try_at-tried-requires t c = (omega arith, simp (tail_part, length-drop) (omega arith), omega arith)
-
 pub region_walk-returns-in-Nothing : goal.region_walk-returns-in-Nothing
 region_walk-returns-in-Nothing t c =
     let a = c.args in
@@ -148,12 +137,6 @@ region_walk-returns-in_default t c =
     let a = goal.at.region_walk-returns-in_default t c in
     rw c.walk_end-in_default.ensures
     (sym (l.invariant.ends ∙ box_cut (turn t a.In-Row (known t a.Joined-word-last)) l.whole refl c.if-boxed.true c.box_walk-inner.ensures c.in_default.not-Going))
-
-pub region_walk-overflow_add-at : goal.region_walk-overflow_add-at
-region_walk-overflow_add-at t c = let a = goal.at.region_walk-overflow_add-at t c in omega (arith, sizes t a.In-Row (known t a.Joined-word-last), c.requires.offsets)
-
-pub region_walk-loop-at-smaller : goal.region_walk-loop-at-smaller
-region_walk-loop-at-smaller t c = let a = goal.at.region_walk-loop-at-smaller t c in omega (arith, sizes t a.In-Row (known t a.Joined-word-last))
 
 pub region_walk-loop-at-preserved : goal.region_walk-loop-at-preserved
 region_walk-loop-at-preserved t c =

@@ -8,7 +8,7 @@ use Rattle.header_judge.specs.Head.{lacking, size_of, declared_of, head_with, de
 use Rattle.header_judge.proofs.Heads.{declared_record, word_there, header_there}
 use Rattle.region_try.proofs.Heads.{ended_stops}
 use Rattle.region_try.proofs.Finds.{finds_nothing, finds_no_room}
-use Rattle.region_flat.proofs.Parts.{nothing_bounds, finds_none, is_record, finds_record}
+use Rattle.region_flat.proofs.Parts.{finds_none, is_record, finds_record}
 use Rattle.region_flat.proofs.one_try.try_next.Goals as goal
 
 -- where a byte is declared a record is there
@@ -22,36 +22,25 @@ module _ (bytes : List ℕ) (word flags declared : ℕ) (is : declared ≡ decla
   says : declared ≡ declared_of bytes flags
   says = is ∙ sym (declared_record bytes word flags (word_there bytes word flags some) sized)
 
-pub returns-then-word-eq-NO_WORD : goal.returns-then-word-eq-NO_WORD
-returns-then-word-eq-NO_WORD c =
+pub returns-then-word-eq-NO_WORD-clause-result_after : goal.returns-then-word-eq-NO_WORD-clause-result_after
+returns-then-word-eq-NO_WORD-clause-result_after c =
     let a = c.args in
-    record {
-      result_after =
-        rw (c.stop_ended.ensures, c.ending_of.ensures)
-            (finds_nothing a.room a.rows a.spans.now (ended_stops a.level a.parent a.offset a.bytes.now a.memory.word a.memory.flags c.if-word-eq-NO_WORD.true));
-      row_bounds = tt;
-    }
+    rw (c.stop_ended.ensures, c.ending_of.ensures)
+    (finds_nothing a.room a.rows a.spans.now (ended_stops a.level a.parent a.offset a.bytes.now a.memory.word a.memory.flags c.if-word-eq-NO_WORD.true))
 
-pub returns-then-declared-eq0 : goal.returns-then-declared-eq0
-returns-then-declared-eq0 c =
+pub returns-then-declared-eq0-clause-result_after : goal.returns-then-declared-eq0-clause-result_after
+returns-then-declared-eq0-clause-result_after c =
     let a = c.args in
     let size = c.size_of-size in
-    record {
-      result_after =
-        rw c.nothing_at.ensures
-            (finds_none a.level a.parent a.offset a.bytes.now a.memory.word a.memory.flags size.result c.if-word-eq-NO_WORD.false size.ensures.value
-            a.room a.rows a.spans.now (sym c.declared_in-declared.ensures.0 ∙ c.if-declared-eq0.true));
-      row_bounds = rw c.nothing_at.ensures (nothing_bounds a.memory.word size.result);
-    }
+    rw c.nothing_at.ensures
+    (finds_none a.level a.parent a.offset a.bytes.now a.memory.word a.memory.flags size.result c.if-word-eq-NO_WORD.false size.ensures.value
+    a.room a.rows a.spans.now (sym c.declared_in-declared.ensures.0 ∙ c.if-declared-eq0.true))
 
-pub returns-then-room-rows : goal.returns-then-room-rows
-returns-then-room-rows c =
+pub returns-then-room-rows-clause-result_after : goal.returns-then-room-rows-clause-result_after
+returns-then-room-rows-clause-result_after c =
     let a = c.args in
     let some = some a.bytes.now a.memory.word a.memory.flags _ c.declared_in-declared.ensures.0 c.if-declared-eq0.false in
-    record {
-      result_after = finds_no_room a.room a.rows a.spans.now (is_record a.level a.parent a.offset a.bytes.now a.memory.word a.memory.flags some) (omega arith);
-      row_bounds = tt;
-    }
+    finds_no_room a.room a.rows a.spans.now (is_record a.level a.parent a.offset a.bytes.now a.memory.word a.memory.flags some) (omega arith)
 
 pub summary_of-summary-requires : goal.summary_of-summary-requires
 summary_of-summary-requires c =

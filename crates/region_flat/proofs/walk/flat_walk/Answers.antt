@@ -33,12 +33,6 @@ returns-then-level-eq0 c =
     let k = place l.around l.level (level_of l.at l.till l.parent) in
     rw c.walk_end.ensures (sym (l.invariant.ends ∙ ahead_end p k (omega arith) (omega arith) l.spans l.rows l.tries l.whole))
 
-pub offset_bounds-around-level : goal.offset_bounds-around-level
-offset_bounds-around-level c = omega (arith, c.loop-till.invariant.placed.deep)
-
-pub bounds-around-level : goal.bounds-around-level
-bounds-around-level c = omega (arith, c.loop-till.invariant.placed.deep)
-
 pub loop-till-smaller-then-till-at : goal.loop-till-smaller-then-till-at
 loop-till-smaller-then-till-at c =
     let a = c.args in
@@ -66,18 +60,6 @@ returns-then-limit-tries c =
     let p = walked a.bytes.now a.rules.now a.limit a.room in
     let ready : Ready p (place l.around l.level (level_of l.at l.till l.parent)) = record { some = c.if-till-at.false; place = l.invariant.placed } in
     rw c.walk_end-then-limit-tries.ensures (sym (l.invariant.ends ∙ ahead_spent p ready l.spans l.rows l.tries l.whole (omega arith)))
-
-pub slice_bounds-word_of-end : goal.slice_bounds-word_of-end
-slice_bounds-word_of-end c = c.loop-till.invariant.placed.fits
-
-pub recall-seen-requires : goal.recall-seen-requires
-recall-seen-requires c = ((c.shared_mask-mask.ensures, c.slots_of-slots.ensures), c.loop-till.invariant.knows)
-
-pub try_next-tried-requires : goal.try_next-tried-requires
-try_next-tried-requires c =
-    let placed = c.loop-till.invariant.placed in
-    let fits = placed.fits in
-    (placed.deep, omega arith, simp (length-take, length-drop) (omega arith), omega arith)
 
 -- ---- no record
 
