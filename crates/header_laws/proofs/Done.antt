@@ -18,7 +18,7 @@ use Rattle.header_judge.specs.declared.Head.TheVariants.{Record}
 use Rattle.header_judge.proofs.Heads.{record_told}
 use Rattle.header_judge.proofs.Sizes.{size_found}
 use Rattle.header.specs.Header.{refusal, judged_from, judged_of, decoded_from, decoded_of}
-use Rattle.header.specs.declared.Answer.TheVariants.{Done, Ended, BadRules, BadHeader, BadType}
+use Rattle.header.specs.declared.Answer.TheVariants.{Done, BadRules}
 use Rattle.header.specs.declared.Decoded.{Decoded}
 use Rattle.header_laws.specs.Agree.{answer_for, decoded_record}
 

@@ -12,12 +12,7 @@ known : (rules bs : List ℕ) (word flags : ℕ) → word ≡ word_of bs → fla
 unfolding head_of
 known rules bs word flags e f = rw (f, e)
 
-pub returns : goal.returns
-returns c =
-    let flagged = c in
-    let worded = flagged in
-    let a = worded.args in
-    let word = worded.word_of-word in
-    let flags = flagged.flags in
-    let judged = c.judge_with.ensures in
-    record { value = judged.0 ∙ known a.rules.now a.s.now word.result flags.result word.ensures flags.ensures; head_bounds = judged.1 }
+pub returns-clause-value : goal.returns-clause-value
+returns-clause-value c =
+    let a = c.args in
+    c.judge_with.ensures.value ∙ known a.rules.now a.s.now c.word_of-word.result c.flags.result c.word_of-word.ensures c.flags.ensures

@@ -1,17 +1,15 @@
 -- `flags` gives the union over the rows that apply.
 -- The loop's invariant: the flags so far, with those of the rows still to come, are the whole union. Assumes nothing.
-use mathlib.Core.Path.{◌≡◌, sym, ◌∙◌}
-use Prim.Native.Nat.{◌+◌, ◌-◌, ◌≤◌}
+use mathlib.Core.Path.{refl, sym, ◌∙◌}
 use native.Mathlib.Omega.{arith}
-use lib.ListN.{length, drop}
-use Rattle.rules.specs.Rules.{rules_of, with_rules, flags_of}
+use Rattle.rules.specs.Rules.{flags_of}
 use Rattle.rules.proofs.Rows.{rows_step, rows_end}
 use Rattle.rules.proofs.Laws.{looked, none_left}
 use Rattle.rules.proofs.flags.Goals as goal
 
 pub loop-at-init : goal.loop-at-init
 unfolding flags_of
-loop-at-init c = search rules
+loop-at-init c = (omega arith, refl)
 
 pub loop-at-preserved : goal.loop-at-preserved
 loop-at-preserved c =

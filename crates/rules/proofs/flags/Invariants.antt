@@ -1,12 +1,9 @@
 -- `flags` gives the union over the rows that apply.
 -- The loop's invariant: the flags so far, with those of the rows still to come, are the whole union. Assumes nothing.
-use mathlib.Core.Path.{◌≡◌, sym, ◌∙◌}
+use mathlib.Core.Path.{◌≡◌}
 use Prim.Native.Nat.{◌+◌, ◌-◌, ◌≤◌}
-use native.Mathlib.Omega.{arith}
 use lib.ListN.{length, drop}
 use Rattle.rules.specs.Rules.{rules_of, with_rules, flags_of}
-use Rattle.rules.proofs.Rows.{rows_step, rows_end}
-use Rattle.rules.proofs.Laws.{looked, none_left}
 use Rattle.rules.proofs.flags.Given as goal
 
 abbrev pub invariant-loop-at : goal.invariant-loop-at

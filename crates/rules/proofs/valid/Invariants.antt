@@ -1,14 +1,9 @@
 -- `valid` tells whether a table is valid.
 -- The loop's invariant: the table is valid exactly when the rows still to come have small flags. Assumes nothing.
-use mathlib.Core.Path.{◌≡◌, ◌∙◌}
-use mathlib.Core.Bool.{true, false}
-use mathlib.Core.List.{List}
-use Prim.Native.Nat.{ℕ, ◌+◌, ◌-◌, ◌/◌, ◌%◌, ◌≤◌, ◌<◌}
-use native.Mathlib.Omega.{arith}
-use lib.ListN.{length, get_or, drop}
-use borrow.Author.Tests.{eq-eqb, ne_eqb, le-leb, lt-leb}
+use mathlib.Core.Path.{◌≡◌}
+use Prim.Native.Nat.{◌-◌, ◌%◌, ◌≤◌}
+use lib.ListN.{length, drop}
 use Rattle.rules.specs.Rules.{rules_of, flags_small, valid_of}
-use Rattle.rules.proofs.Rows.{rows_step, rows_end}
 use Rattle.rules.proofs.valid.Given as goal
 
 abbrev pub invariant-loop-at : goal.invariant-loop-at

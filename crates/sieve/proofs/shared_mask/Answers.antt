@@ -1,12 +1,8 @@
 -- `shared_mask` gives the bits that all rows look at.
 -- The loop's invariant: the bits so far, with the rows still to come, are the table's. Assumes nothing.
-use mathlib.Core.Path.{◌≡◌, refl, sym, ◌∙◌}
-use Prim.Native.Nat.{◌+◌, ◌-◌, ◌≤◌}
+use mathlib.Core.Path.{sym, ◌∙◌}
 use native.Mathlib.Omega.{arith}
-use lib.ListN.{length, drop}
-use Rattle.rules.specs.Rules.{rules_of}
 use Rattle.rules.proofs.Rows.{rows_step, rows_end}
-use Rattle.sieve.specs.Sieve.{shared_by, shared_mask}
 use Rattle.sieve.proofs.Sieve.{shared_row, shared_end}
 use Rattle.sieve.proofs.shared_mask.Goals as goal
 

@@ -1,13 +1,10 @@
 -- `shared_mask` gives the bits that all rows look at.
 -- The loop's invariant: the bits so far, with the rows still to come, are the table's. Assumes nothing.
-use mathlib.Core.Path.{◌≡◌, refl, sym, ◌∙◌}
+use mathlib.Core.Path.{◌≡◌}
 use Prim.Native.Nat.{◌+◌, ◌-◌, ◌≤◌}
-use native.Mathlib.Omega.{arith}
 use lib.ListN.{length, drop}
 use Rattle.rules.specs.Rules.{rules_of}
-use Rattle.rules.proofs.Rows.{rows_step, rows_end}
 use Rattle.sieve.specs.Sieve.{shared_by, shared_mask}
-use Rattle.sieve.proofs.Sieve.{shared_row, shared_end}
 use Rattle.sieve.proofs.shared_mask.Given as goal
 
 abbrev pub invariant-loop-at : goal.invariant-loop-at

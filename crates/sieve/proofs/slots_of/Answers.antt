@@ -1,12 +1,9 @@
 -- `slots_of` gives the slots of the table.
 -- The loop's invariant: the slots so far, without those of the rows still to come, are the table's. Assumes nothing.
-use mathlib.Core.Path.{◌≡◌, refl, sym, ◌∙◌}
-use Prim.Native.Nat.{◌+◌, ◌-◌, ◌≤◌}
+use mathlib.Core.Path.{sym, ◌∙◌}
 use native.Mathlib.Omega.{arith}
-use lib.ListN.{length, drop, length-set}
-use Rattle.rules.specs.Rules.{rules_of}
+use lib.ListN.{length-set}
 use Rattle.rules.proofs.Rows.{rows_step, rows_end}
-use Rattle.sieve.specs.Sieve.{taken_by, slots_of}
 use Rattle.sieve.proofs.Sieve.{taken_row, taken_end}
 use Rattle.sieve.proofs.slots_of.Goals as goal
 

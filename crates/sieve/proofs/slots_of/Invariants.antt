@@ -1,13 +1,10 @@
 -- `slots_of` gives the slots of the table.
 -- The loop's invariant: the slots so far, without those of the rows still to come, are the table's. Assumes nothing.
-use mathlib.Core.Path.{◌≡◌, refl, sym, ◌∙◌}
+use mathlib.Core.Path.{◌≡◌}
 use Prim.Native.Nat.{◌+◌, ◌-◌, ◌≤◌}
-use native.Mathlib.Omega.{arith}
-use lib.ListN.{length, drop, length-set}
+use lib.ListN.{length, drop}
 use Rattle.rules.specs.Rules.{rules_of}
-use Rattle.rules.proofs.Rows.{rows_step, rows_end}
 use Rattle.sieve.specs.Sieve.{taken_by, slots_of}
-use Rattle.sieve.proofs.Sieve.{taken_row, taken_end}
 use Rattle.sieve.proofs.slots_of.Given as goal
 
 abbrev pub invariant-loop-at : goal.invariant-loop-at

@@ -1,7 +1,7 @@
 -- `words_of` gives so many status words, and zeros.
 -- The loop's invariant: the words so far, and zeros. Assumes nothing.
 use mathlib.Core.Path.{◌≡◌, refl, ap, ◌∙◌}
-use Prim.Native.Nat.{ℕ, ◌-◌, ◌≤◌}
+use Prim.Native.Nat.{ℕ}
 use native.Mathlib.Omega.{arith}
 use Rattle.layout.specs.Fields.{read_all}
 use Rattle.layout.specs.Runs.{cells}

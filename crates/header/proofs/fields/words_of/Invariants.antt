@@ -1,12 +1,10 @@
 -- `words_of` gives so many status words, and zeros.
 -- The loop's invariant: the words so far, and zeros. Assumes nothing.
-use mathlib.Core.Path.{◌≡◌, refl, ap, ◌∙◌}
-use Prim.Native.Nat.{ℕ, ◌-◌, ◌≤◌}
-use native.Mathlib.Omega.{arith}
+use mathlib.Core.Path.{◌≡◌}
+use Prim.Native.Nat.{◌-◌, ◌≤◌}
 use Rattle.layout.specs.Fields.{read_all}
 use Rattle.layout.specs.Runs.{cells}
 use Rattle.header.specs.Layouts.{padded}
-use Rattle.header.proofs.Statuses.{words_more}
 use Rattle.header.proofs.fields.words_of.Given as goal
 
 abbrev pub invariant-loop-i : goal.invariant-loop-i

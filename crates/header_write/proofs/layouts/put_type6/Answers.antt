@@ -27,10 +27,6 @@ whole word d k n c z p ws out {half} {fields} few h f e = e ∙ write_first 28 4
 
 pub returns : goal.returns
 returns c =
-    let words = c in
-    let fields = words in
-    let half = fields in
-    let start = half in
-    let a = start.args in
-    whole a.word a.die_id a.socket_id a.count a.complete a.size a.stamp a.words a.out.now (omega (arith, start.requires.2, start.well-formed))
-    half.count_half-half.ensures fields.put_counted.ensures words.put_words.ensures
+    let a = c.args in
+    whole a.word a.die_id a.socket_id a.count a.complete a.size a.stamp a.words a.out.now (omega (arith, c.requires.2, c.well_formed))
+    c.count_half-half.ensures c.put_counted.ensures c.put_words.ensures

@@ -2,10 +2,10 @@
 -- The loop's invariant: the words so far are written. Assumes nothing.
 use mathlib.Core.Path.{◌≡◌, refl, ap, ◌∙◌}
 use mathlib.Core.List.{List}
-use Prim.Native.Nat.{ℕ, ◌+◌, ◌*◌, ◌-◌, ◌≤◌}
+use Prim.Native.Nat.{ℕ, ◌+◌, ◌*◌}
 use native.Mathlib.Numerals.{add-one}
 use native.Mathlib.Omega.{arith}
-use lib.ListN.{length, get_or}
+use lib.ListN.{get_or}
 use Rattle.le.specs.Le.{put}
 use Rattle.layout.specs.Runs.{put_run}
 use Rattle.header_write.proofs.layouts.put_words.Goals as goal
@@ -21,17 +21,6 @@ loop-i-init c = (omega arith, refl, refl)
 
 pub loop-i-preserved : goal.loop-i-preserved
 loop-i-preserved c =
-    let loop = c in
-    let a = loop.args in
-    let l = loop.loop-i in
-    (omega arith, c.put_u32.auto.0 ∙ l.invariant.1, c.put_u32.ensures ∙ turn a.out.now l.out a.t2 l.i l.invariant.2)
-
-pub shape_of-out : goal.shape_of-out
-shape_of-out c = c.loop-i.invariant.1
-
-pub returns : goal.returns
-returns c =
     let a = c.args in
     let l = c.loop-i in
-    let e : l.i ≡ a.count = omega arith in
-    l.invariant.2 ∙ ap (λ (k : ℕ). put_run 4 k a.out.now 28 a.t2) e
+    (omega arith, c.put_u32.auto.out ∙ l.invariant.1, c.put_u32.ensures ∙ turn a.out.now l.out a.words l.i l.invariant.2)

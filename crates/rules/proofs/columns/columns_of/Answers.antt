@@ -1,11 +1,8 @@
 -- `columns_of` gives the table's columns.
 -- The loop's invariant: the columns so far, with the rows still to come, are the table's. Assumes nothing.
-use mathlib.Core.Path.{◌≡◌, refl, sym, ◌∙◌}
-use Prim.Native.Nat.{◌-◌, ◌*◌, ◌≤◌}
+use mathlib.Core.Path.{refl, sym, ◌∙◌}
 use native.Mathlib.Omega.{arith}
-use lib.ListN.{length, drop, length-set}
-use Rattle.rules.specs.Rules.{rules_of}
-use Rattle.rules.specs.Columns.{with_rows_from, columns_of}
+use lib.ListN.{length-set}
 use Rattle.rules.proofs.Rows.{rows_end, rows_step}
 use Rattle.rules.proofs.ColumnRows.{rows_written, row_written}
 use Rattle.rules.proofs.columns.columns_of.Goals as goal

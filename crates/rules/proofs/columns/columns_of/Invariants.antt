@@ -1,13 +1,10 @@
 -- `columns_of` gives the table's columns.
 -- The loop's invariant: the columns so far, with the rows still to come, are the table's. Assumes nothing.
-use mathlib.Core.Path.{◌≡◌, refl, sym, ◌∙◌}
+use mathlib.Core.Path.{◌≡◌}
 use Prim.Native.Nat.{◌-◌, ◌*◌, ◌≤◌}
-use native.Mathlib.Omega.{arith}
-use lib.ListN.{length, drop, length-set}
+use lib.ListN.{length, drop}
 use Rattle.rules.specs.Rules.{rules_of}
 use Rattle.rules.specs.Columns.{with_rows_from, columns_of}
-use Rattle.rules.proofs.Rows.{rows_end, rows_step}
-use Rattle.rules.proofs.ColumnRows.{rows_written, row_written}
 use Rattle.rules.proofs.columns.columns_of.Given as goal
 
 abbrev pub invariant-loop-at : goal.invariant-loop-at

@@ -1,13 +1,9 @@
 -- `flags_in` gives the union over the rows that apply.
 -- The loop's invariant: the flags so far, with those of the rows still to come, are the whole union. Assumes nothing.
-use mathlib.Core.Path.{◌≡◌, sym, ◌∙◌}
-use Prim.Native.Nat.{◌-◌, ◌*◌, ◌≤◌}
-use native.Mathlib.Nat.{sub-zero}
-use native.Mathlib.Omega.{arith}
+use mathlib.Core.Path.{◌≡◌}
+use Prim.Native.Nat.{◌-◌, ◌≤◌}
 use Rattle.rules.specs.Rules.{rules_of, with_rules, flags_of}
-use Rattle.rules.proofs.Laws.{looked, none_left}
 use Rattle.rules.specs.Columns.{rules_from}
-use Rattle.rules.proofs.ColumnRows.{columns_step, columns_end}
 use Rattle.rules.proofs.columns.flags_in.Given as goal
 
 abbrev pub invariant-loop-row : goal.invariant-loop-row

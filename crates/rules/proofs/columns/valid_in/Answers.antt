@@ -3,12 +3,11 @@
 use mathlib.Core.Path.{◌≡◌, refl, ◌∙◌}
 use mathlib.Core.Bool.{Bool, true, false, ◌&&◌}
 use mathlib.Core.List.{List, [], ◌∷◌}
-use Prim.Native.Nat.{◌-◌, ◌*◌, ◌≤◌}
+use Prim.Native.Nat.{◌*◌}
 use native.Mathlib.Nat.{sub-zero}
 use native.Mathlib.Omega.{arith}
 use lib.Dec.{leb}
-use Rattle.rules.specs.Rules.{Rule, rules_of, flags_small, valid_of}
-use Rattle.rules.specs.Columns.{rules_from}
+use Rattle.rules.specs.Rules.{Rule, flags_small}
 use Rattle.rules.proofs.ColumnRows.{columns_step, columns_end, small_valid}
 use Rattle.rules.proofs.columns.valid_in.Goals as goal
 

@@ -1,15 +1,10 @@
 -- `valid_in` tells whether the rows of some blocks are a valid table.
 -- The loop's invariant: the table is valid exactly when the flags so far and those of the rows still to come are small. Assumes nothing.
-use mathlib.Core.Path.{◌≡◌, refl, ◌∙◌}
-use mathlib.Core.Bool.{Bool, true, false, ◌&&◌}
-use mathlib.Core.List.{List, [], ◌∷◌}
-use Prim.Native.Nat.{◌-◌, ◌*◌, ◌≤◌}
-use native.Mathlib.Nat.{sub-zero}
-use native.Mathlib.Omega.{arith}
-use lib.Dec.{leb}
-use Rattle.rules.specs.Rules.{Rule, rules_of, flags_small, valid_of}
+use mathlib.Core.Path.{◌≡◌}
+use mathlib.Core.Bool.{◌&&◌}
+use Prim.Native.Nat.{◌-◌, ◌≤◌}
+use Rattle.rules.specs.Rules.{rules_of, flags_small, valid_of}
 use Rattle.rules.specs.Columns.{rules_from}
-use Rattle.rules.proofs.ColumnRows.{columns_step, columns_end, small_valid}
 use Rattle.rules.proofs.columns.valid_in.Given as goal
 
 abbrev pub invariant-loop-row : goal.invariant-loop-row

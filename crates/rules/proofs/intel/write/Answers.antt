@@ -2,7 +2,7 @@
 -- The loop's invariant: the output's first `at` numbers are the table's, and the others as they were. Assumes nothing.
 use mathlib.Core.Path.{◌≡◌, refl, ap, sym, ◌∙◌}
 use mathlib.Core.List.{List}
-use Prim.Native.Nat.{ℕ, ◌+◌, ◌-◌, ◌≤◌, ◌<◌}
+use Prim.Native.Nat.{ℕ, ◌+◌, ◌≤◌, ◌<◌}
 use native.Mathlib.Nat.{zero-add}
 use native.Mathlib.Numerals.{add-one}
 use native.Mathlib.Omega.{arith}
@@ -38,9 +38,6 @@ module _ (out : List ℕ) {rules : List ℕ} (e : rules ≡ intel) (room : 120 �
       let last : at ≡ length intel = omega (arith, length-intel) in
       rw (c, e, last, take-length intel, length-intel, le-leb 120 (length out) room)
 
-same : (c : tie.At-loop invariant-loop decreases-loop) → length c.loop-at.out ≡ length c.args.out.now
-same c = as_long c.args.out.now c.table-rules.ensures (omega arith) c.loop-at.at c.loop-at.invariant.0 c.loop-at.invariant.1
-
 pub returns-then-out-lt-WORDS : goal.returns-then-out-lt-WORDS
 returns-then-out-lt-WORDS c = short c.args.out.now c.if-out-lt-WORDS.true
 
@@ -48,7 +45,9 @@ pub loop-at-init : goal.loop-at-init
 loop-at-init c = (omega arith, refl)
 
 pub bounds-out-at : goal.bounds-out-at
-bounds-out-at c = omega (arith, same c)
+bounds-out-at c =
+    let l = c.loop-at in
+    omega (arith, as_long c.args.out.now c.table-rules.ensures (omega arith) l.at l.invariant.0 l.invariant.1)
 
 pub loop-at-preserved : goal.loop-at-preserved
 loop-at-preserved c =
@@ -56,7 +55,9 @@ loop-at-preserved c =
     (omega arith, turn c.args.out.now c.table-rules.ensures (omega arith) l.at (omega arith) l.invariant.1)
 
 pub shape_of-out : goal.shape_of-out
-shape_of-out c = same c
+shape_of-out c =
+    let l = c.loop-at in
+    as_long c.args.out.now c.table-rules.ensures (omega arith) l.at l.invariant.0 l.invariant.1
 
 pub returns : goal.returns
 returns c =

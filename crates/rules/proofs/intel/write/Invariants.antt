@@ -1,16 +1,8 @@
 -- `write` puts the table at the start of the output where it fits, and gives the number of its words.
 -- The loop's invariant: the output's first `at` numbers are the table's, and the others as they were. Assumes nothing.
-use mathlib.Core.Path.{◌≡◌, refl, ap, sym, ◌∙◌}
-use mathlib.Core.List.{List}
-use Prim.Native.Nat.{ℕ, ◌+◌, ◌-◌, ◌≤◌, ◌<◌}
-use native.Mathlib.Nat.{zero-add}
-use native.Mathlib.Numerals.{add-one}
-use native.Mathlib.Omega.{arith}
-use lib.ListN.{length, get_or, set}
-use lib.Seq.{paste, paste-suc, length-paste, take-length}
-use borrow.Author.Tests.{le-leb, lt-leb}
-use Rattle.rules.specs.Intel.{intel, intel_out}
-use Rattle.rules.proofs.IntelTable.{length-intel}
+use mathlib.Core.Path.{◌≡◌}
+use Prim.Native.Nat.{◌-◌, ◌≤◌}
+use lib.Seq.{paste}
 use Rattle.rules.proofs.intel.write.Given as goal
 
 abbrev pub invariant-loop-at : goal.invariant-loop-at
