@@ -1,26 +1,19 @@
 -- What a copy leaves: of a part of a slice in an array as long as the part, and in the part of a slice that starts at an offset.
 -- By laws of `take` and `drop`. Assumes nothing.
-use mathlib.Core.Path.{◌≡◌, sym, ap, ap₂, ◌∙◌}
-use mathlib.Core.List.{List, ◌++◌, append-nil, append_assoc}
-use Prim.Native.Nat.{ℕ, ◌+◌, ◌-◌, ◌≤◌}
+use mathlib.Core.Path.{◌≡◌, sym, ap, ◌∙◌}
+use mathlib.Core.List.{List, ◌++◌, append_assoc}
+use Prim.Native.Nat.{ℕ, ◌+◌, ◌-◌}
 use native.Mathlib.Omega.{arith}
-use lib.ListN.{length, take, drop, drop_of_length-le, length-drop}
-use lib.Seq.{take-length, length-take-le}
+use lib.ListN.{length, take, drop}
 use borrow.Rule.Slice.PartMut.{put_mid}
 use Rattle.basics.proofs.Parts.{put_through}
 use Rattle.cper_fields.specs.Fields.{part, over}
 
 -- a part copied over a whole array
-pub copied_part : (bs field out : List ℕ) (at n : ℕ) → at + n ≤ length bs → length field ≡ n
-    → (let src = take (at + n - at) (drop at bs) in out ≡ take (length src) src ++ drop (length src) field) → out ≡ part bs at n
-copied_part bs field out at n h l e =
-    let src = take (at + n - at) (drop at bs) in
+pub copied_part : (bs out : List ℕ) (at n : ℕ) → out ≡ take (at + n - at) (drop at bs) → out ≡ part bs at n
+copied_part bs out at n e =
     let count : at + n - at ≡ n = omega arith in
-    let size : length src ≡ n = length-take-le (at + n - at) (drop at bs) (omega (arith, length-drop at bs)) ∙ count in
-    e
-    ∙ ap₂ (λ (a b : List ℕ). a ++ b) (take-length src) (drop_of_length-le field {i = length src} (omega arith))
-    ∙ append-nil src
-    ∙ ap (λ (k : ℕ). take k (drop at bs)) count
+    e ∙ ap (λ (k : ℕ). take k (drop at bs)) count
 
 -- what was written to the start of the part that starts at an offset
 pub written_through : (out field last : List ℕ) (at n : ℕ) → last ≡ field ++ drop n (take (length out - at) (drop at out))

@@ -1,14 +1,12 @@
 -- The checks of a CPER: where they pass the work is done, and the input is short and has a whole header; else the refusal has their answer.
 -- By the tests' outcomes. Assumes nothing.
 use mathlib.Core.Path.{◌≡◌, refl, sym, ap, ◌∙◌}
-use mathlib.Core.List.{List, [], ◌∷◌}
+use mathlib.Core.List.{List}
 use mathlib.Core.Bool.{Bool, true, false, cond, ◌&&◌}
 use Prim.Native.Nat.{ℕ, ◌≤◌}
 use native.Mathlib.Omega.{arith}
 use lib.Dec.{eqb, leb, ltb}
 use lib.ListN.{length}
-use types.Run.{OneOf, miss}
-use denote.Enum.Declared.{tag_of}
 use borrow.Author.Tests.{le-ltb, ltb-false, leb-true}
 use Rattle.le.specs.Le.{le}
 use Rattle.basics.proofs.Bools.{both}
@@ -17,7 +15,6 @@ use Rattle.cper_header.specs.Record.{header_size, signature, signature_end, star
 use Rattle.cper_sections.specs.Answers.{checked, check_of}
 use Rattle.cper_sections.specs.declared.Answer.{Answer}
 use Rattle.cper_sections.specs.declared.Answer.TheVariants.{Done, TooLong, NotCper}
-use Rattle.cper_sections.specs.contracts.Answer.{the_type as answer-type}
 
 pub header_whole : (cper : List ℕ) → is_cper cper ≡ true → header_size ≤ length cper
 unfolding is_cper
@@ -40,9 +37,9 @@ passes cper answer e f = by (ltb most_bytes (length cper)) (is_cper cper) refl r
     by false true l i q = record { short = ltb-false most_bytes (length cper) l; is = i; header = header_whole cper i }
     by false false l i q = let no : ◌≡◌ {A = ℕ} 0 1 = cc in absurd (omega arith)
 
--- any answer but 'done', by its tag
+-- any answer but 'done'
 abbrev pub Refusal : Answer → Type 0
-Refusal answer = OneOf (1 ∷ 2 ∷ 3 ∷ 4 ∷ 5 ∷ []) (tag_of answer-type answer)
+Refusal answer = answer ≡ Done → ⊥
 
 module _ {A : Type 0} (cper : List ℕ) (refused : Answer → A) (work : A) where
   -- the checks pass
@@ -60,5 +57,5 @@ module _ {A : Type 0} (cper : List ℕ) (refused : Answer → A) (work : A) wher
       where
         by : (long good : Bool) → answer ≡ cond long TooLong (cond good Done NotCper) → refused answer ≡ cond long (refused TooLong) (cond good work (refused NotCper))
         by true good q = ap refused q
-        by false true q = absurd (miss (1 ∷ 2 ∷ 3 ∷ 4 ∷ 5 ∷ []) 0 tt (rw q at other))
+        by false true q = absurd (other q)
         by false false q = ap refused q

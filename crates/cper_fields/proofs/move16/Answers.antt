@@ -8,13 +8,9 @@ use Rattle.cper_fields.proofs.move16.Goals as goal
 
 pub returns : goal.returns
 returns c =
-    let last = c in
-    let first = last in
-    let read = first in
-    let low = read in
-    let a = low.args in
+    let a = c.args in
     let s = a.s.now in
-    let bytes : (k : ℕ) → get_or s k 0 < 256 = λ k. (low.shared-slice-known.given k).fits in
-    moved_both s a.held 8 8 a.at a.out.now first.put_u64.new.0 last.put_u64-2.new.0 (omega arith) (omega arith)
-    (moved_number s bytes a.held 8 a.at a.out.now (omega arith) (omega arith) low.u64_at.ensures read.long_if-low.ensures first.put_u64.ensures)
-    (moved_number s bytes a.held 8 (a.at + 8) first.put_u64.new.0 (omega arith) (omega (arith, first.put_u64.auto.0)) read.u64_at-2.ensures read.long_if-high.ensures last.put_u64-2.ensures)
+    let bytes : (k : ℕ) → get_or s k 0 < 256 = λ k. (c.type_inv.s k).fits in
+    moved_both s a.held 8 8 a.at a.out.now c.put_u64.new.out c.put_u64-2.new.out (omega arith) (omega arith)
+    (moved_number s bytes a.held 8 a.at a.out.now (omega arith) (omega arith) c.u64_at.ensures c.long_if-low.ensures c.put_u64.ensures)
+    (moved_number s bytes a.held 8 (a.at + 8) c.put_u64.new.out (omega arith) (omega (arith, c.put_u64.auto.out)) c.u64_at-2.ensures c.long_if-high.ensures c.put_u64-2.ensures)

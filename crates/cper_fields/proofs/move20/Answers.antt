@@ -8,12 +8,9 @@ use Rattle.cper_fields.proofs.move20.Goals as goal
 
 pub returns : goal.returns
 returns c =
-    let last = c in
-    let first = last in
-    let read = first in
-    let a = read.args in
+    let a = c.args in
     let s = a.s.now in
-    let bytes : (k : ℕ) → get_or s k 0 < 256 = λ k. (read.shared-slice-known.given k).fits in
-    moved_both s a.held 4 16 a.at a.out.now first.put_u32.new.0 last.move16.new.1.1.0 (omega arith) (omega arith)
-    (moved_number s bytes a.held 4 a.at a.out.now (omega arith) (omega arith) read.u32_at.ensures first.number_if.ensures.0 first.put_u32.ensures)
-    last.move16.ensures
+    let bytes : (k : ℕ) → get_or s k 0 < 256 = λ k. (c.type_inv.s k).fits in
+    moved_both s a.held 4 16 a.at a.out.now c.put_u32.new.out c.move16.new.out (omega arith) (omega arith)
+    (moved_number s bytes a.held 4 a.at a.out.now (omega arith) (omega arith) c.u32_at.ensures c.number_if.ensures.0 c.put_u32.ensures)
+    c.move16.ensures

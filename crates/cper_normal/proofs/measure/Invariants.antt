@@ -1,13 +1,10 @@
 -- `measure` counts the kept sections and adds up their bodies' lengths.
 -- The loop's invariant: both, with those of the sections still to come, are those of all. Assumes nothing.
-use mathlib.Core.Path.{◌≡◌, ap, ◌∙◌}
+use mathlib.Core.Path.{◌≡◌}
 use Prim.Native.Nat.{◌+◌, ◌*◌, ◌-◌, ◌≤◌, ◌<◌}
-use native.Mathlib.Nat.{zero-add}
-use native.Mathlib.Omega.{arith}
 use lib.ListN.{length}
 use Rattle.cper_sections.specs.Sections.{kept_of}
-use Rattle.cper_sections.specs.Steps.{kept_in, Found}
-use Rattle.cper_sections.proofs.KeptFrom.{kept_start}
+use Rattle.cper_sections.specs.Steps.{kept_in}
 use Rattle.cper_normal.specs.Normal.{body_sizes}
 use Rattle.cper_normal.proofs.measure.Given as goal
 

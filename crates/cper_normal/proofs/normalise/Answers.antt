@@ -7,21 +7,18 @@ use Rattle.cper_normal.proofs.normalise.Goals as goal
 
 pub pack_kept-requires : goal.pack_kept-requires
 pack_kept-requires c =
-    let checked = c in
-    let p = passes checked.args.cper.now checked.check-answer.result checked.check-answer.ensures c.enum_told.given.1 in
+    let p = passes c.args.cper.now c.check-answer.result c.check-answer.ensures c.in-Done.is in
     (p.header, p.short)
 
 pub returns-in-Done : goal.returns-in-Done
 unfolding normalised_of
 returns-in-Done c =
-    let passing = c in
-    let checked = passing in
-    let a = checked.args in
+    let a = c.args in
     c.pack_kept.ensures
-    ∙ passed a.cper.now (unwritten a.out.now) (packed_in a.cper.now a.out.now) checked.check-answer.result checked.check-answer.ensures passing.enum_told.given.1
+    ∙ passed a.cper.now (unwritten a.out.now) (packed_in a.cper.now a.out.now) c.check-answer.result c.check-answer.ensures c.in-Done.is
 
 pub returns-in_default : goal.returns-in_default
 unfolding normalised_of
 returns-in_default c =
     let a = c.args in
-    no_cper a.cper.now (unwritten a.out.now) (packed_in a.cper.now a.out.now) c.check-answer.result c.check-answer.ensures c.in_default.keys2
+    no_cper a.cper.now (unwritten a.out.now) (packed_in a.cper.now a.out.now) c.check-answer.result c.check-answer.ensures c.in_default.not-Done

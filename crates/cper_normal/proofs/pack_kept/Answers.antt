@@ -2,7 +2,7 @@
 -- By what the header's and the sections' writes leave. Assumes nothing.
 use mathlib.Core.Path.{◌≡◌, ap, ap₂, ◌∙◌}
 use mathlib.Core.List.{List, ◌++◌}
-use Prim.Native.Nat.{ℕ, ◌+◌, ◌≤◌, ◌<◌}
+use Prim.Native.Nat.{ℕ, ◌≤◌, ◌<◌}
 use native.Mathlib.Omega.{arith}
 use lib.ListN.{length, drop}
 use borrow.Author.Tests.{le-leb, lt-leb}
@@ -44,29 +44,20 @@ module _ (cper out : List ℕ) where
 
 pub returns-then-out-extent : goal.returns-then-out-extent
 returns-then-out-extent c =
-    let measured = c in
-    let a = measured.args in
-    let size = measured.measure-extent.ensures.size in
-    short a.cper.now a.out.now (omega arith)
+    let size = c.measure-extent.ensures.size in
+    short c.args.cper.now c.args.out.now (omega arith)
 
 pub returns-then-extent-gt-MOST_OUTPUT : goal.returns-then-extent-gt-MOST_OUTPUT
 returns-then-extent-gt-MOST_OUTPUT c =
-    let measured = c in
-    let a = measured.args in
-    let size = measured.measure-extent.ensures.size in
-    large a.cper.now a.out.now (omega arith) (omega arith)
+    let size = c.measure-extent.ensures.size in
+    large c.args.cper.now c.args.out.now (omega arith) (omega arith)
 
 pub returns : goal.returns
 returns c =
-    let packed = c in
-    let headed = packed in
-    let fits = headed in
-    let measured = fits in
-    let start = measured in
-    let a = start.args in
-    let m = measured.measure-extent.ensures in
+    let a = c.args in
+    let m = c.measure-extent.ensures in
     let size = m.size in
-    written a.cper.now a.out.now (omega arith) measured.measure-extent.result.size headed.write_header.new.1.0 packed.write_sections.new.1.0 start.requires.0 (omega arith) size
-    (headed.write_header.ensures
+    written a.cper.now a.out.now (omega arith) c.measure-extent.result.size c.write_header.new.out c.write_sections.new.out c.requires.0 (omega arith) size
+    (c.write_header.ensures
     ∙ ap₂ (λ (n k : ℕ). header_bytes (normal_header (counted n k (header_of a.cper.now))) ++ drop header_size a.out.now) m.kept size)
-    packed.write_sections.ensures
+    c.write_sections.ensures

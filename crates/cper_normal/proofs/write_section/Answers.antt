@@ -38,14 +38,9 @@ module _ (cper out : List ℕ) (row to : ℕ) (k : Section) where
 
 pub returns : goal.returns
 returns c =
-    let put = c in
-    let known = put in
-    let rewritten = known in
-    let slot = rewritten in
-    let start = slot in
-    let a = start.args in
-    put.put_bytes.ensures
+    let a = c.args in
+    c.put_bytes.ensures
     ∙ second a.cper.now a.out.now a.row a.to a.section _
-    (first a.cper.now a.out.now a.row a.to a.section slot.descriptor_at-from.result slot.descriptor_at-slot.result rewritten.rewrite.new.1.0
-    slot.descriptor_at-from.ensures slot.descriptor_at-slot.ensures rewritten.rewrite.ensures)
-    start.requires.section.body
+    (first a.cper.now a.out.now a.row a.to a.section c.descriptor_at-from.result c.descriptor_at-slot.result c.rewrite.new.out
+    c.descriptor_at-from.ensures c.descriptor_at-slot.ensures c.rewrite.ensures)
+    c.requires.section.body

@@ -1,18 +1,12 @@
 -- `write_sections` writes the kept sections, each after the one before.
 -- The loop's invariant: writing the sections still to come from here ends as writing all from the start. Assumes nothing.
-use mathlib.Core.Path.{◌≡◌, refl, sym, ap, ap₂, ◌∙◌}
-use mathlib.Core.List.{List}
-use Prim.Native.Nat.{ℕ, ◌+◌, ◌-◌, ◌≤◌, ◌<◌}
-use native.Mathlib.Nat.{zero-add}
-use native.Mathlib.Omega.{arith}
+use mathlib.Core.Path.{◌≡◌}
+use Prim.Native.Nat.{◌+◌, ◌-◌, ◌≤◌, ◌<◌}
 use lib.ListN.{length}
-use Rattle.cper_sections.specs.Sections.{descriptor_at, kept_of}
-use Rattle.cper_sections.specs.Steps.{kept_in, Found}
-use Rattle.cper_sections.specs.declared.kept.Section.{Section}
-use Rattle.cper_sections.proofs.KeptFrom.{kept_start}
+use Rattle.cper_sections.specs.Sections.{kept_of}
+use Rattle.cper_sections.specs.Steps.{kept_in}
 use Rattle.cper_normal.specs.Normal.{body_sizes, bodies_at, size_of}
 use Rattle.cper_normal.specs.Steps.{pack}
-use Rattle.cper_normal.proofs.Packed.{pack_section}
 use Rattle.cper_normal.proofs.write_sections.Given as goal
 
 abbrev pub invariant-loop-section : goal.invariant-loop-section

@@ -2,7 +2,7 @@
 -- The loop's invariant: the row still to pass, among the sections still to come, is the row asked for among all. Assumes nothing.
 use mathlib.Core.Path.{◌≡◌, sym, ap, ◌∙◌}
 use mathlib.Core.List.{List, ◌∷◌}
-use Prim.Native.Nat.{ℕ, suc, ◌-◌, ◌≤◌, ◌<◌}
+use Prim.Native.Nat.{ℕ, suc, ◌-◌}
 use native.Mathlib.Omega.{arith}
 use Rattle.cper_sections.specs.Sections.{kept_of, located, place_in}
 use Rattle.cper_sections.specs.Steps.{kept_in, Found}
@@ -21,16 +21,10 @@ later : (k : Section) (ks : List Section) (row : ℕ) → (row ≡ 0 → ⊥) �
 unfolding place_in
 later k ks row f = let e : row ≡ suc (row - 1) = omega arith in sym (ap (place_in (k ∷ ks)) e)
 
--- the section that was found
-found : (c : tie.After-next invariant-loop decreases-loop)
-    → (let l = c in Found l.args.cper.now l.loop-section.index l.section_count-count.result c.next.given.0.0)
-found c = rw c.next.given.1 at c.next_kept-next.ensures
-
 -- the row left, among other sections that are those still to come
-left_in : (c : tie.At-loop invariant-loop decreases-loop) {ks : List Section}
-    → (let a = c.args in kept_in a.cper.now c.loop-section.index c.section_count-count.result ≡ ks
-    → place_in ks c.loop-section.left ≡ place_in (kept_of a.cper.now) a.row)
-left_in c e = ap (λ (ks : List Section). place_in ks c.loop-section.left) (sym e) ∙ c.loop-section.invariant.3
+left_in : (cper : List ℕ) (row index count left : ℕ) {ks : List Section} → place_in (kept_in cper index count) left ≡ place_in (kept_of cper) row
+    → kept_in cper index count ≡ ks → place_in ks left ≡ place_in (kept_of cper) row
+left_in cper row index count left now e = ap (λ (ks : List Section). place_in ks left) (sym e) ∙ now
 
 pub loop-section-init : goal.loop-section-init
 loop-section-init c =
@@ -40,24 +34,22 @@ loop-section-init c =
 pub returns-in_default : goal.returns-in_default
 unfolding place_in
 returns-in_default c =
-    let at = c in
-    left_in at (rw c.enum_told.given.1 at at.next_kept-next.ensures)
+    let l = c.loop-section in
+    left_in c.args.cper.now c.args.row l.index c.section_count-count.result l.left l.invariant.3 c.in_default.ensures
 
 pub returns-then-left-eq0 : goal.returns-then-left-eq0
 returns-then-left-eq0 c =
-    let next = c in
-    let l = next in
-    now next.next.given.0.0 _ l.loop-section.left c.if-left-eq0.true ∙ left_in l (found next).rest
-
-pub overflow_add-index : goal.overflow_add-index
-overflow_add-index c = let f = found c in omega arith
-
-pub loop-section-smaller : goal.loop-section-smaller
-loop-section-smaller c = let f = found c in omega arith
+    let l = c.loop-section in
+    now c.in-Kept.section _ l.left c.if-left-eq0.true
+    ∙ left_in c.args.cper.now c.args.row l.index c.section_count-count.result l.left l.invariant.3 c.in-Kept.ensures.rest
 
 pub loop-section-preserved : goal.loop-section-preserved
 loop-section-preserved c =
-    let next = c in
-    let l = next in
-    let f = found next in
-    (omega arith, omega arith, omega arith, later _ _ l.loop-section.left c.if-left-eq0.false ∙ left_in l f.rest)
+    let l = c.loop-section in
+    let f : Found c.args.cper.now l.index c.section_count-count.result c.in-Kept.section = c.in-Kept.ensures in (
+      omega arith,
+      omega arith,
+      omega arith,
+      later _ _ l.left c.if-left-eq0.false
+          ∙ left_in c.args.cper.now c.args.row l.index c.section_count-count.result l.left l.invariant.3 f.rest,
+    )

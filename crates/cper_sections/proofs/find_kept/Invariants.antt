@@ -1,14 +1,9 @@
 -- `find_kept` finds the kept section with a row number.
 -- The loop's invariant: the row still to pass, among the sections still to come, is the row asked for among all. Assumes nothing.
-use mathlib.Core.Path.{◌≡◌, sym, ap, ◌∙◌}
-use mathlib.Core.List.{List, ◌∷◌}
-use Prim.Native.Nat.{ℕ, suc, ◌-◌, ◌≤◌, ◌<◌}
-use native.Mathlib.Omega.{arith}
-use Rattle.cper_sections.specs.Sections.{kept_of, located, place_in}
-use Rattle.cper_sections.specs.Steps.{kept_in, Found}
-use Rattle.cper_sections.specs.declared.Answer.TheVariants.{Done}
-use Rattle.cper_sections.specs.declared.kept.Section.{Section}
-use Rattle.cper_sections.proofs.KeptFrom.{kept_start}
+use mathlib.Core.Path.{◌≡◌}
+use Prim.Native.Nat.{◌-◌, ◌≤◌, ◌<◌}
+use Rattle.cper_sections.specs.Sections.{kept_of, place_in}
+use Rattle.cper_sections.specs.Steps.{kept_in}
 use Rattle.cper_sections.proofs.find_kept.Given as goal
 
 abbrev pub invariant-loop-section : goal.invariant-loop-section

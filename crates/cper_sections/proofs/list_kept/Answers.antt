@@ -2,30 +2,19 @@
 -- The loop's invariant: filling the table from here with the sections still to come ends as filling it from its start with all. Assumes nothing.
 use mathlib.Core.Path.{◌≡◌, refl, sym, ap, ◌∙◌}
 use mathlib.Core.List.{List}
-use Prim.Native.Nat.{◌-◌, ◌≤◌, ◌<◌}
+use Prim.Native.Nat.{ℕ}
 use native.Mathlib.Omega.{arith}
-use lib.ListN.{length}
-use Rattle.cper_sections.specs.Sections.{told, kept_of, listed_in}
+use Rattle.cper_sections.specs.Sections.{kept_of, listed_in}
 use Rattle.cper_sections.specs.Steps.{kept_in, Found}
 use Rattle.cper_sections.specs.declared.kept.Section.{Section}
 use Rattle.cper_sections.proofs.KeptFrom.{kept_start}
 use Rattle.cper_sections.proofs.Table.{fill, fill_row, fill_full, fill_listed}
 use Rattle.cper_sections.proofs.list_kept.Goals as goal
 
--- the section that was found
-found : (c : tie.After-next invariant-loop decreases-loop)
-    → (let l = c in Found l.args.cper.now l.loop-section.index l.section_count-count.result c.next.given.0.0)
-found c = rw c.next.given.1 at c.next_kept-next.ensures
-
 -- the table filled from here with other sections that are those still to come
-filled : (c : tie.At-loop invariant-loop decreases-loop) {ks : List Section}
-    → (let a = c.args in kept_in a.cper.now c.loop-section.index c.section_count-count.result ≡ ks
-    → fill c.loop-section.table c.loop-section.rows ks ≡ listed_in a.table.now (kept_of a.cper.now))
-filled c e = ap (fill c.loop-section.table c.loop-section.rows) (sym e) ∙ c.loop-section.invariant.4
-
--- the section that was listed in a turn
-abbrev turned : tie.After-struct-known invariant-loop decreases-loop → tie.After-next invariant-loop decreases-loop
-turned c = let put = c in put
+filled : (cper start table : List ℕ) (rows index count : ℕ) {ks : List Section} → fill table rows (kept_in cper index count) ≡ listed_in start (kept_of cper)
+    → kept_in cper index count ≡ ks → fill table rows ks ≡ listed_in start (kept_of cper)
+filled cper start table rows index count now e = ap (fill table rows) (sym e) ∙ now
 
 pub loop-section-init : goal.loop-section-init
 loop-section-init c =
@@ -35,33 +24,23 @@ loop-section-init c =
 pub returns-in_default : goal.returns-in_default
 unfolding fill
 returns-in_default c =
-    let at = c in
-    filled at (rw c.enum_told.given.1 at at.next_kept-next.ensures)
+    let l = c.loop-section in
+    filled c.args.cper.now c.args.table.now l.table l.rows l.index c.section_count-count.result l.invariant.4 c.in_default.ensures
 
 pub returns-then-room-rows : goal.returns-then-room-rows
 returns-then-room-rows c =
-    let next = c in
-    let l = next in
-    fill_full l.loop-section.table l.loop-section.rows _ _ (omega arith) ∙ filled l (found next).rest
-
-pub put_row-requires : goal.put_row-requires
-put_row-requires c = let f = found c in (omega arith, omega arith)
-
-pub overflow_add-index : goal.overflow_add-index
-overflow_add-index c = let f = found (turned c) in omega arith
-
-pub loop-section-smaller : goal.loop-section-smaller
-loop-section-smaller c = let f = found (turned c) in omega arith
+    let l = c.loop-section in
+    fill_full l.table l.rows _ _ (omega arith)
+    ∙ filled c.args.cper.now c.args.table.now l.table l.rows l.index c.section_count-count.result l.invariant.4 c.in-Kept.ensures.rest
 
 pub loop-section-preserved : goal.loop-section-preserved
 loop-section-preserved c =
-    let put = c in
-    let next = turned c in
-    let l = next in
-    let f = found next in (
+    let l = c.loop-section in
+    let f : Found c.args.cper.now l.index c.section_count-count.result c.in-Kept.section = c.in-Kept.ensures in (
       omega arith,
       omega arith,
       omega arith,
-      put.put_row.auto.0 ∙ l.loop-section.inv.3,
-      fill_row l.loop-section.table l.loop-section.rows _ _ (omega arith) put.put_row.ensures ∙ filled l f.rest,
+      c.put_row.auto.table ∙ l.invariant.3,
+      fill_row l.table l.rows _ _ (omega arith) c.put_row.ensures
+          ∙ filled c.args.cper.now c.args.table.now l.table l.rows l.index c.section_count-count.result l.invariant.4 f.rest,
     )

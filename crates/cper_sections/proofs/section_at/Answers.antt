@@ -7,19 +7,17 @@ use Rattle.cper_sections.proofs.section_at.Goals as goal
 
 pub find_kept-requires : goal.find_kept-requires
 find_kept-requires c =
-    let checked = c in
-    (passes checked.args.cper.now checked.check-answer.result checked.check-answer.ensures c.enum_told.given.1).header
+    (passes c.args.cper.now c.check-answer.result c.check-answer.ensures c.in-Done.is).header
 
 pub returns-in-Done : goal.returns-in-Done
 unfolding place_of
 returns-in-Done c =
-    let checked = c in
-    let a = checked.args in
+    let a = c.args in
     c.find_kept.ensures
-    ∙ passed a.cper.now nowhere (place_in (kept_of a.cper.now) a.row) checked.check-answer.result checked.check-answer.ensures c.enum_told.given.1
+    ∙ passed a.cper.now nowhere (place_in (kept_of a.cper.now) a.row) c.check-answer.result c.check-answer.ensures c.in-Done.is
 
 pub returns-in_default : goal.returns-in_default
 unfolding place_of
 returns-in_default c =
     let a = c.args in
-    no_cper a.cper.now nowhere (place_in (kept_of a.cper.now) a.row) c.check-answer.result c.check-answer.ensures c.in_default.keys2
+    no_cper a.cper.now nowhere (place_in (kept_of a.cper.now) a.row) c.check-answer.result c.check-answer.ensures c.in_default.not-Done

@@ -7,20 +7,17 @@ use Rattle.cper_sections.proofs.sections.Goals as goal
 
 pub list_kept-requires : goal.list_kept-requires
 list_kept-requires c =
-    let checked = c in
-    (passes checked.args.cper.now checked.check-answer.result checked.check-answer.ensures c.enum_told.given.1).header
+    (passes c.args.cper.now c.check-answer.result c.check-answer.ensures c.in-Done.is).header
 
 pub returns-in-Done : goal.returns-in-Done
 unfolding sections_of
 returns-in-Done c =
-    let passing = c in
-    let checked = passing in
-    let a = checked.args in
+    let a = c.args in
     c.list_kept.ensures
-    ∙ passed a.cper.now (unlisted a.table.now) (listed_in a.table.now (kept_of a.cper.now)) checked.check-answer.result checked.check-answer.ensures passing.enum_told.given.1
+    ∙ passed a.cper.now (unlisted a.table.now) (listed_in a.table.now (kept_of a.cper.now)) c.check-answer.result c.check-answer.ensures c.in-Done.is
 
 pub returns-in_default : goal.returns-in_default
 unfolding sections_of
 returns-in_default c =
     let a = c.args in
-    no_cper a.cper.now (unlisted a.table.now) (listed_in a.table.now (kept_of a.cper.now)) c.check-answer.result c.check-answer.ensures c.in_default.keys2
+    no_cper a.cper.now (unlisted a.table.now) (listed_in a.table.now (kept_of a.cper.now)) c.check-answer.result c.check-answer.ensures c.in_default.not-Done

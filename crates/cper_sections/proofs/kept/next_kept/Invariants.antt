@@ -1,12 +1,8 @@
 -- `next_kept` gives the first kept section from an index on.
 -- The loop's invariant: from the index on, the same sections are kept as from the first. Assumes nothing.
-use mathlib.Core.Path.{◌≡◌, refl, sym, ◌∙◌}
-use mathlib.Core.Bool.{true, false}
+use mathlib.Core.Path.{◌≡◌}
 use Prim.Native.Nat.{◌-◌, ◌≤◌}
-use native.Mathlib.Omega.{arith}
-use Rattle.cper_sections.specs.Sections.{told, keeps}
-use Rattle.cper_sections.specs.Steps.{kept_in, Found}
-use Rattle.cper_sections.proofs.KeptFrom.{kept_end, kept_next, keeps_within}
+use Rattle.cper_sections.specs.Steps.{kept_in}
 use Rattle.cper_sections.proofs.kept.next_kept.Given as goal
 
 abbrev pub invariant-loop-index : goal.invariant-loop-index

@@ -21,6 +21,5 @@ halves cper bytes i at both stands e =
 
 pub returns : goal.returns
 returns c =
-    let start = c in
-    halves start.args.cper.now (λ k. (c.shared-slice-known.given k).fits) start.args.index c.descriptor_at.result
+    halves c.args.cper.now (λ k. (c.type_inv.cper k).fits) c.args.index c.descriptor_at.result
     c.u64_at-both.result c.descriptor_at.ensures c.u64_at-both.ensures
