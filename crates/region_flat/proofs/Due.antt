@@ -31,8 +31,8 @@ rows_hit r us vs n =
 
 -- ---- a part of some bytes
 
-take-least : (d k h : ℕ) (xs : List ℕ) → h ≡ min d k → take d (take k xs) ≡ take h xs
-take-least d k h xs e =
+take_least : (d k h : ℕ) (xs : List ℕ) → h ≡ min d k → take d (take k xs) ≡ take h xs
+take_least d k h xs e =
     ⊎_elim
     (λ (g : d ≤ k). let f : h ≡ d = omega arith in rw (take-take, f))
     (λ (g : k < d).
@@ -91,7 +91,7 @@ module _ (rules bytes : List ℕ) where
   pub left_inside : (x : Level) (h d z n : ℕ) → h ≡ min d (x.till - x.at) → left (inside x h z n) ≡ drop z (take d (left x))
   left_inside x h d z n e =
       let f : h - z ≡ x.at + h - (x.at + z) = omega arith in
-      sym (rw (take-least d (x.till - x.at) h (drop x.at bytes) e, drop-take z h (drop x.at bytes), drop-drop, f))
+      sym (rw (take_least d (x.till - x.at) h (drop x.at bytes) e, drop-take z h (drop x.at bytes), drop-drop, f))
 
   -- ---- the levels around
 

@@ -45,7 +45,7 @@ nothing_bounds word size = by (eqb size no_size) (eqb size lacking)
     by false true = tt
     by false false = tt
 
-module _ (level parent offset : ℕ) (bs : List ℕ) (word flags size : ℕ) (there : word ≡ no_word → ⊥) (is-size : size ≡ size_of bs word flags) where
+module _ (level parent offset : ℕ) (bs : List ℕ) (word flags size : ℕ) (there : word ≡ no_word → ⊥) (is_size : size ≡ size_of bs word flags) where
   pub finds_none : (room rows : ℕ) (t : List ℕ) → declared_by (head_with bs word flags) ≡ 0
       → ◌≡◌ {A = List ℕ × Found} (t, nothing_at word size) (found room rows (try_at level parent offset bs word flags) t)
   finds_none room rows t none = by (eqb size no_size) refl (eqb size lacking) refl
@@ -58,10 +58,10 @@ module _ (level parent offset : ℕ) (bs : List ℕ) (word flags size : ℕ) (th
       by : (j : Bool) → eqb size no_size ≡ j → (k : Bool) → eqb size lacking ≡ k
           → ◌≡◌ {A = List ℕ × Found} (t, cond j (Nothing BadType (header_type word)) (cond k (Nothing BadHeader 0) (Nothing SizeZero 0)))
           (found room rows (try_at level parent offset bs word flags) t)
-      by true p k q = finds_nothing room rows t (bad_type_stops level parent offset bs word flags there (sym is-size ∙ eqb-true size no_size p))
-      by false p true q = finds_nothing room rows t (bad_header_stops level parent offset bs word flags there (sym is-size ∙ eqb-true size lacking q))
+      by true p k q = finds_nothing room rows t (bad_type_stops level parent offset bs word flags there (sym is_size ∙ eqb-true size no_size p))
+      by false p true q = finds_nothing room rows t (bad_header_stops level parent offset bs word flags there (sym is_size ∙ eqb-true size lacking q))
       by false p false q =
-          let sized : lacking < size_of bs word flags = rw (← is-size) (above size (eqb-false size no_size p) (eqb-false size lacking q)) in
+          let sized : lacking < size_of bs word flags = rw (← is_size) (above size (eqb-false size no_size p) (eqb-false size lacking q)) in
           finds_nothing room rows t (empty_stops level parent offset bs word flags there sized (declared_record bs word flags there sized ∙ none))
 
 -- ---- some are
@@ -83,5 +83,5 @@ module _ (level parent offset : ℕ) (bs : List ℕ) (word flags : ℕ) (some : 
       → t₁ ≡ with_span t rows span → span ≡ span_of level parent offset (length bs) summary → summary ≡ summary_of bs word flags
       → declared ≡ declared_of bs flags → size ≡ size_of bs word flags → box ≡ is_box word flags
       → ◌≡◌ {A = List ℕ × Found} (t₁, Row span.held declared size box) (found room rows (try_at level parent offset bs word flags) t)
-  finds_record room rows t h put is-span is-summary is_declared is-size is-box =
-      rw (put, is-span, is-summary, is_declared, is-size, is-box) (finds_row room rows t is_record h)
+  finds_record room rows t h put is_span is_summary is_declared is_size is_boxed =
+      rw (put, is_span, is_summary, is_declared, is_size, is_boxed) (finds_row room rows t is_record h)

@@ -44,6 +44,10 @@ pub record Whole : Type 0 where
   pub limit : ℕ
   pub room : ℕ
 
+-- that of a walk, from what it is lent
+abbrev pub walked : List ℕ → List ℕ → ℕ → ℕ → Whole
+walked bytes rules limit room = record { rules = rules; bytes = bytes; limit = limit; room = room }
+
 -- the levels around the innermost, its number, and itself
 pub record Place : Type 0 where
   pub around : List Level
@@ -171,9 +175,9 @@ module _ (p : Whole) where
       → word ≡ word_of (left p.rules p.bytes k.here) → Known p.rules word flags
       → ◌≡◌ {A = List ℕ × Found} (t₁, f) (found p.room rows (try_at k.level k.here.parent k.here.at (left p.rules p.bytes k.here) word flags) t)
       → RowBounds f → Tried k t t₁ rows tries f
-  tried_at {k} word flags ready due is_IsWord known gave bounded =
+  tried_at {k} word flags ready due is_word known gave bounded =
       let here : head_with (left p.rules p.bytes k.here) word flags ≡ head_of p.rules (left p.rules p.bytes k.here) =
-      head_known p.rules (left p.rules p.bytes k.here) word flags is_IsWord known in
+      head_known p.rules (left p.rules p.bytes k.here) word flags is_word known in
       let depth : deepest - (deepest - k.level) ≡ k.level = omega (arith, ready.place.deep) in
       record { ready = ready; due = due; gave = rw depth (rw here at gave); bounded = bounded }
 

@@ -36,7 +36,7 @@ use Rattle.region_try.proofs.Tries.{records_end, records_first, records_stop, re
 use Rattle.region_try.proofs.Stops.{stands_hit, past_within, past_box}
 use Rattle.region_try.proofs.Whole.{keeps_stop, keeps_plain, keeps_box}
 use Rattle.region_try.proofs.Runs.{spent_going, full_going, step_spent, step_made, run_none, run_cons, run_append, run_cut, run_rows}
-use Rattle.region_walk.specs.Steps.{walk_end, end_where, stands_in, region_end}
+use Rattle.region_walk.specs.Steps.{limit_in, room_in, table_in, walk_end, end_where, stands_in, region_end}
 use Rattle.region_walk.specs.declared.Walked.{Walked}
 use Rattle.region_walk.proofs.Ends.{cut_off, end_cut, ends_none, ends_cut, ends_stop, end_counts}
 
@@ -84,6 +84,11 @@ pub record Place : Type 0 where
   pub parent : ℕ
   pub limit : ℕ
   pub room : ℕ
+
+-- the place of a walk, from what it is lent
+abbrev pub placed : List ℕ → List ℕ → List ℕ → ℕ → ℕ → ℕ → Place
+placed bytes rules bounds base levels parent =
+    record { rules = table_in rules bounds; bytes = bytes; base = base; levels = levels; parent = parent; limit = limit_in bounds; room = room_in bounds }
 
 module _ (p : Place) where
   -- the bytes from a position on
@@ -310,8 +315,8 @@ module _ (p : Place) (at word flags : ℕ) where
       → word ≡ word_of part → Known p.rules word flags
       → ◌≡◌ {A = List ℕ × Found} (t₁, f) (found p.room rows (try_at (deepest - p.levels) p.parent (p.base + at) part word flags) t)
       → RowBounds f → Tried p at t t₁ rows tries f
-  tried_at deep within due is_IsWord is-flags gave bounded =
-      let h : head_with part word flags ≡ head_of p.rules part = head_known p.rules part word flags is_IsWord is-flags in
+  tried_at deep within due is_word is_flags gave bounded =
+      let h : head_with part word flags ≡ head_of p.rules part = head_known p.rules part word flags is_word is_flags in
       record { deep = deep; within = within; due = due; gave = rw (h, tail_part) at gave; bounded = bounded }
 
 -- a cut that is not the first is none that goes on

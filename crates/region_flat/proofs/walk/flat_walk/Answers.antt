@@ -1,190 +1,186 @@
 -- `flat_walk` runs the tries of the whole input.
--- The loop's invariant: the tries that are due at the place, run from here, end as the whole does. Assumes nothing.
-use Prim.Native.Nat.{ℕ, ◌+◌, ◌-◌, ◌*◌, ◌<◌, ◌^◌}
-use mathlib.Core.Path.{◌≡◌, refl, sym, subst, ◌∙◌}
-use mathlib.Core.List.{List, [], ◌∷◌}
-use mathlib.Core.Bool.{Bool}
-use mathlib.Core.Logic.{⊎_elim}
-use native.Mathlib.Omega.{arith}
-use lib.ListN.{length, length-take, length-drop}
-use Rattle.region_flat.specs.Steps.{level_of, Remembers}
+-- Each end and each turn of the loop is the invariant with the lemma of what the try finds. Assumes nothing.
+use Rattle.std.proofs.Common.{◌≡◌, ℕ, ◌+◌, ◌-◌, ◌<◌, ◌≤◌, [], ◌∷◌, length, length-take, length-drop, sym, refl, subst, ◌∙◌, arith}
+use Rattle.region_flat.specs.Steps.{level_of}
 use Rattle.region_flat.specs.declared.walk.Level.{Level}
-use Rattle.region_flat.specs.declared.one_try.Memory.{Memory}
-use Rattle.region_flat.proofs.Turn.{Whole, Place, place, Placed, Ready, Within, within_none, dues, ahead, entire, ahead_start, ahead_end, ahead_back, falls_back, placed_back, ahead_spent, Tried, tried_at, full_turn, stop_top, stop_turn, On, falls_on, row_free, row_bounds, row_held, plain_turn, deep_turn, short_turn, open_turn}
+use Rattle.region_try.specs.declared.Found.TheVariants.{Nothing, Row}
+use Rattle.region_flat.proofs.Turn.{Whole, Place, place, walked, Ready, Within, within_none, ahead_start, ahead_end, ahead_back, falls_back, placed_back, ahead_spent, Tried, tried_at, full_turn, stop_top, stop_turn, On, falls_on, row_free, row_held, plain_turn, deep_turn, short_turn, open_turn}
+use Rattle.region_flat.proofs.walk.flat_walk.Goals.{In-Nothing, In-Row, Joined-boxed, then-boxed+then-level+else-size-held, then-boxed+else-level, else-boxed}
 use Rattle.region_flat.proofs.walk.flat_walk.Goals as goal
-
-abbrev walked : List ℕ → List ℕ → ℕ → ℕ → Whole
-walked bytes rules limit room = record { rules = rules; bytes = bytes; limit = limit; room = room }
-
--- the invariant: the tries that are due at the place, run from here, end as the whole does; and the flags of the remembered words are known
-record Going-on (p : Whole) (t₀ t : List ℕ) (k : Place) (memory : Memory) (rows tries : ℕ) (whole : Bool) : Type 0 where
-  knows : Remembers p.rules memory
-  same : length t ≡ length t₀
-  placed : Placed p k
-  ends : entire p t₀ ≡ ahead p k t rows tries whole
-
-abbrev whole_of : tie.Start invariant-loop decreases-loop → Whole
-whole_of s = walked s.args.bytes.now s.args.rules.now s.args.limit s.args.room
-
--- the start, and the place, of a turn
-abbrev start : tie.At-loop invariant-loop decreases-loop → tie.Start invariant-loop decreases-loop
-start l = l
-
-abbrev place_at : tie.At-loop invariant-loop decreases-loop → Place
-place_at l = place l.loop-till.around l.loop-till.level (level_of l.loop-till.at l.loop-till.till l.loop-till.parent)
-
--- ---- a level that is at its end
-
--- ---- the try of a turn
-
-module _ (c : tie.After-try-next invariant-loop decreases-loop) where
-  abbrev at : tie.At-loop invariant-loop decreases-loop
-  at = c
-
-  abbrev recalled : tie.After-recall invariant-loop decreases-loop
-  recalled = c
-
-  abbrev after : List ℕ
-  after = c.try_next-tried.new.1.1.1.1.1.1.1.0
-
-  -- the table of rows is as long as at the start
-  long : length after ≡ length (start at).args.spans.now
-  long = c.try_next-tried.auto.1.1.1.1.1.1.1.0 ∙ at.loop-till.inv.same
-
-  turn : Tried (whole_of (start at)) (place_at at) at.loop-till.spans after at.loop-till.rows at.loop-till.tries c.try_next-tried.result
-  turn =
-      tried_at (whole_of (start at)) recalled.recall-seen.result.word recalled.recall-seen.result.flags
-      (record { some = omega arith; place = at.loop-till.inv.placed }) (omega arith) (recalled.recall-seen.ensures.1 ∙ recalled.word_of.ensures) recalled.recall-seen.ensures.0.0
-      c.try_next-tried.ensures.0 c.try_next-tried.ensures.1
-
-  -- the invariant after a turn
-  onward : (k : Place) (rows : ℕ) (whole : Bool) → On turn at.loop-till.whole k rows whole
-      → Going-on (whole_of (start at)) (start at).args.spans.now after k recalled.recall-seen.result rows (at.loop-till.tries + 1) whole
-  onward k rows whole n = record { knows = recalled.recall-seen.ensures.0; same = long; placed = n.place; ends = at.loop-till.inv.ends ∙ n.same }
-
--- ---- no record
-
--- ---- a record
-
--- what is known of it
-module _ (c : tie.After-tried2 invariant-loop decreases-loop) where
-  abbrev tried : tie.After-try-next invariant-loop decreases-loop
-  tried = c
-
-  abbrev whole : Bool
-  whole = (at tried).loop-till.whole
-
-  free : (at tried).loop-till.rows < (start (at tried)).args.room
-  free = row_free (turn tried) whole c.tried-in-Row-1.given.1
-
-  -- the sums of its sizes fit
-  record Sums : Type 0 where
-    past : (at tried).loop-till.at + c.tried-in-Row-1.given.0.1.0 < 2 ^ 32
-    held : (at tried).loop-till.at + c.tried-in-Row-1.given.0.0 < 2 ^ 32
-    size : (at tried).loop-till.at + c.tried-in-Row-1.given.0.1.1.0 < 2 ^ 32
-    till : (at tried).loop-till.till < 2 ^ 32
-
-  sums : Sums
-  sums =
-      let d = row_bounds (turn tried) whole c.tried-in-Row-1.given.1 in
-      let h = row_held (turn tried) whole c.tried-in-Row-1.given.1 in
-      let f = (at tried).loop-till.inv.placed.fits in
-      let s = (turn tried).ready.some in
-      let l = (start (at tried)).pre.0 in
-      record { past = omega arith; held = omega arith; size = omega arith; till = omega arith }
-
--- a level is entered
-loop-less-3 : tie.Need-loop-smaller-3 invariant-loop decreases-loop
-loop-less-3 c =
-    let r = c in
-    rw c.level_of.ensures
-    (falls_on (turn (tried r)) (whole r) (open_turn (turn (tried r)) (whole r) r.tried-in-Row-1.given.1 c.if-boxed.true c.if-level.true c.if-size-held.true))
-
--- none is
-passed : (c : tie.Joined5 invariant-loop decreases-loop) → let r = c in let l = (at (tried r)).loop-till in
-    On (turn (tried r)) l.whole (place l.around l.level (level_of (l.at + r.tried-in-Row-1.given.0.1.0) l.till l.parent)) (l.rows + 1) c.if-boxed.whole
-passed c =
-    let r = c in
-    let e = r.tried-in-Row-1.given.1 in
-    ⊎_elim (λ q. rw q.3 (short_turn (turn (tried r)) (whole r) e q.0.taken q.1.taken q.2.left))
-    (⊎_elim (λ q. rw q.2 (deep_turn (turn (tried r)) (whole r) e q.0.taken q.1.left)) (λ q. rw q.1 (plain_turn (turn (tried r)) (whole r) e q.0.left)))
-    c.if-boxed.branch
 
 pub loop-till-init : goal.loop-till-init
 loop-till-init c =
-    let s = c in
+    let a = c.args in
+    let n = length a.bytes.now in
     record {
       knows = (λ n. absurd (n c.no_memory-seen.ensures.0), λ n. absurd (n c.no_memory-seen.ensures.1));
-      same = refl;
-      placed = record { deep = omega arith; five = refl; inside = subst (λ (x : Level). Within (x ∷ x ∷ x ∷ x ∷ x ∷ []) (length s.args.bytes.now)) (sym c.level_of-ground.ensures) (within_none (length s.args.bytes.now)); fits = omega arith };
-      ends = ahead_start (whole_of s) _ s.args.spans.now;
+      placed = record {
+        deep = omega arith;
+        five = refl;
+        inside = subst (λ (x : Level). Within (x ∷ x ∷ x ∷ x ∷ x ∷ []) n) (sym c.level_of-ground.ensures) (within_none n);
+        fits = omega arith;
+      };
+      ends = ahead_start (walked a.bytes.now a.rules.now a.limit a.room) _ a.spans.now;
     }
+
+-- ---- a level that is at its end
 
 pub returns-then-level-eq0 : goal.returns-then-level-eq0
 returns-then-level-eq0 c =
-    let l = c in
-    rw c.walk_end.ensures
-    (sym (l.loop-till.invariant.ends ∙ ahead_end (whole_of (start l)) (place_at l) (omega arith) (omega arith) l.loop-till.spans l.loop-till.rows l.loop-till.tries l.loop-till.whole))
+    let a = c.args in
+    let l = c.loop-till in
+    let p = walked a.bytes.now a.rules.now a.limit a.room in
+    let k = place l.around l.level (level_of l.at l.till l.parent) in
+    rw c.walk_end.ensures (sym (l.invariant.ends ∙ ahead_end p k (omega arith) (omega arith) l.spans l.rows l.tries l.whole))
+
+pub offset_bounds-around-level : goal.offset_bounds-around-level
+offset_bounds-around-level c = omega (arith, c.loop-till.invariant.placed.deep)
+
+pub bounds-around-level : goal.bounds-around-level
+bounds-around-level c = omega (arith, c.loop-till.invariant.placed.deep)
 
 pub loop-till-smaller-then-till-at : goal.loop-till-smaller-then-till-at
 loop-till-smaller-then-till-at c =
-    let l = c in
-    falls_back (whole_of (start l)) (place_at l) (omega arith) (l.loop-till.level - 1) (omega arith) l.loop-till.rows
+    let a = c.args in
+    let l = c.loop-till in
+    falls_back (walked a.bytes.now a.rules.now a.limit a.room) (place l.around l.level (level_of l.at l.till l.parent)) (omega arith) (l.level - 1) (omega arith) l.rows
 
 pub loop-till-preserved-then-till-at : goal.loop-till-preserved-then-till-at
 loop-till-preserved-then-till-at c =
-    let l = c in
-    let i = l.loop-till.invariant in
+    let a = c.args in
+    let l = c.loop-till in
+    let p = walked a.bytes.now a.rules.now a.limit a.room in
+    let k = place l.around l.level (level_of l.at l.till l.parent) in
     record {
-      knows = i.knows;
-      same = i.same;
-      placed = placed_back (whole_of (start l)) (place_at l) (omega arith) (l.loop-till.level - 1) (omega arith) i.placed;
-      ends = i.ends ∙ ahead_back (whole_of (start l)) (place_at l) (omega arith) (l.loop-till.level - 1) (omega arith) l.loop-till.spans l.loop-till.rows l.loop-till.tries l.loop-till.whole;
+      knows = l.invariant.knows;
+      placed = placed_back p k (omega arith) (l.level - 1) (omega arith) l.invariant.placed;
+      ends = l.invariant.ends ∙ ahead_back p k (omega arith) (l.level - 1) (omega arith) l.spans l.rows l.tries l.whole;
     }
+
+-- ---- the try of a turn
 
 pub returns-then-limit-tries : goal.returns-then-limit-tries
 returns-then-limit-tries c =
-    let l = c in
-    let ready : Ready (whole_of (start l)) (place_at l) = record { some = omega arith; place = l.loop-till.invariant.placed } in
-    rw c.walk_end-then-limit-tries.ensures (sym (l.loop-till.invariant.ends ∙ ahead_spent (whole_of (start l)) ready l.loop-till.spans l.loop-till.rows l.loop-till.tries l.loop-till.whole (omega arith)))
+    let a = c.args in
+    let l = c.loop-till in
+    let p = walked a.bytes.now a.rules.now a.limit a.room in
+    let ready : Ready p (place l.around l.level (level_of l.at l.till l.parent)) = record { some = c.if-till-at.false; place = l.invariant.placed } in
+    rw c.walk_end-then-limit-tries.ensures (sym (l.invariant.ends ∙ ahead_spent p ready l.spans l.rows l.tries l.whole (omega arith)))
+
+pub slice_bounds-word_of-end : goal.slice_bounds-word_of-end
+slice_bounds-word_of-end c = c.loop-till.invariant.placed.fits
 
 pub recall-seen-requires : goal.recall-seen-requires
-recall-seen-requires c = let l = c in ((l.shared_mask-mask.ensures, l.slots_of-slots.ensures), l.loop-till.invariant.knows)
+recall-seen-requires c = ((c.shared_mask-mask.ensures, c.slots_of-slots.ensures), c.loop-till.invariant.knows)
 
 pub try_next-tried-requires : goal.try_next-tried-requires
 try_next-tried-requires c =
-    let l = c in
-    let fits = l.loop-till.invariant.placed.fits in
-    (l.loop-till.invariant.placed.deep, omega arith, simp (length-take, length-drop) (omega arith), omega (arith, l.loop-till.invariant.same))
+    let placed = c.loop-till.invariant.placed in
+    let fits = placed.fits in
+    (placed.deep, omega arith, simp (length-take, length-drop) (omega arith), omega arith)
+
+-- ---- no record
+
+module _ (c : In-Nothing) where
+  abbrev stop_walk : Whole
+  stop_walk = walked c.args.bytes.now c.args.rules.now c.args.limit c.args.room
+
+  abbrev stop_place : Place
+  stop_place = place c.loop-till.around c.loop-till.level (level_of c.loop-till.at c.loop-till.till c.loop-till.parent)
+
+  stop_tried : Tried stop_walk stop_place c.loop-till.spans c.try_next-tried.new.spans c.loop-till.rows c.loop-till.tries (Nothing c.in-Nothing.stop c.in-Nothing.bad_type)
+  stop_tried =
+      tried_at stop_walk c.recall-seen.result.word c.recall-seen.result.flags (record { some = c.if-till-at.false; place = c.loop-till.invariant.placed }) c.if-limit-tries.false
+      (c.recall-seen.ensures.1 ∙ c.word_of.ensures) c.recall-seen.ensures.0.0 c.in-Nothing.ensures.result_after c.in-Nothing.ensures.row_bounds
 
 pub loop-till-smaller-then-level-gt0 : goal.loop-till-smaller-then-level-gt0
 loop-till-smaller-then-level-gt0 c =
-    let y = c in
-    falls_on (turn y) (at y).loop-till.whole (stop_turn (turn y) (at y).loop-till.whole c.tried.given.1 c.if-level-gt0.true)
+    let y = stop_tried (goal.at.loop-till-smaller-then-level-gt0 c).In-Nothing in
+    falls_on y c.loop-till.whole (stop_turn y c.loop-till.whole refl c.if-level-gt0.true)
 
 pub loop-till-preserved-then-level-gt0 : goal.loop-till-preserved-then-level-gt0
 loop-till-preserved-then-level-gt0 c =
-    let y = c in
-    rw c.clean_stop-whole.ensures (onward y _ _ _ (stop_turn (turn y) (at y).loop-till.whole c.tried.given.1 c.if-level-gt0.true))
+    let y = stop_tried (goal.at.loop-till-preserved-then-level-gt0 c).In-Nothing in
+    let n = stop_turn y c.loop-till.whole refl c.if-level-gt0.true in
+    rw c.clean_stop-whole.ensures (record { knows = c.recall-seen.ensures.0; placed = n.place; ends = c.loop-till.invariant.ends ∙ n.same })
 
 pub returns-else-level-gt0 : goal.returns-else-level-gt0
 returns-else-level-gt0 c =
-    let y = c in
-    rw (c.walk_end-else-level-gt0.ensures, c.clean_stop-whole.ensures) (sym ((at y).loop-till.invariant.ends ∙ stop_top (turn y) (at y).loop-till.whole c.tried.given.1 (omega arith)))
+    let y = stop_tried (goal.at.returns-else-level-gt0 c).In-Nothing in
+    rw (c.walk_end-else-level-gt0.ensures, c.clean_stop-whole.ensures) (sym (c.loop-till.invariant.ends ∙ stop_top y c.loop-till.whole refl (omega arith)))
 
 pub returns-in-NoRoom : goal.returns-in-NoRoom
 returns-in-NoRoom c =
-    let y = c in
-    rw c.walk_end-in-NoRoom.ensures (sym ((at y).loop-till.invariant.ends ∙ full_turn (turn y) (at y).loop-till.whole c.enum_told.given.1))
+    let a = c.args in
+    let l = c.loop-till in
+    let p = walked a.bytes.now a.rules.now a.limit a.room in
+    let ready : Ready p (place l.around l.level (level_of l.at l.till l.parent)) = record { some = c.if-till-at.false; place = l.invariant.placed } in
+    let y =
+        tried_at p c.recall-seen.result.word c.recall-seen.result.flags ready c.if-limit-tries.false
+        (c.recall-seen.ensures.1 ∙ c.word_of.ensures) c.recall-seen.ensures.0.0 c.in-NoRoom.ensures.result_after c.in-NoRoom.ensures.row_bounds in
+    rw c.walk_end-in-NoRoom.ensures (sym (l.invariant.ends ∙ full_turn y l.whole refl))
+
+-- ---- a record
+
+module _ (c : In-Row) where
+  abbrev row_walk : Whole
+  row_walk = walked c.args.bytes.now c.args.rules.now c.args.limit c.args.room
+
+  abbrev row_place : Place
+  row_place = place c.loop-till.around c.loop-till.level (level_of c.loop-till.at c.loop-till.till c.loop-till.parent)
+
+  row_tried : Tried row_walk row_place c.loop-till.spans c.try_next-tried.new.spans c.loop-till.rows c.loop-till.tries (Row c.in-Row.held c.in-Row.declared c.in-Row.size c.in-Row.boxed)
+  row_tried =
+      tried_at row_walk c.recall-seen.result.word c.recall-seen.result.flags (record { some = c.if-till-at.false; place = c.loop-till.invariant.placed }) c.if-limit-tries.false
+      (c.recall-seen.ensures.1 ∙ c.word_of.ensures) c.recall-seen.ensures.0.0 c.in-Row.ensures.result_after c.in-Row.ensures.row_bounds
+
+  free : c.loop-till.rows < c.args.room
+  free = row_free row_tried c.loop-till.whole refl
+
+  held : c.loop-till.at + c.in-Row.held ≤ c.loop-till.till
+  held = row_held row_tried c.loop-till.whole refl
+
+pub overflow_add-rows : goal.overflow_add-rows
+overflow_add-rows c = omega (arith, free (goal.at.overflow_add-rows c).In-Row)
+
+pub overflow_add-till : goal.overflow_add-till
+overflow_add-till c = omega (arith, held (goal.at.overflow_add-till c).In-Row, c.loop-till.invariant.placed.fits)
+
+-- a level is entered
+
+pub loop-till-smaller-then-size-held : goal.loop-till-smaller-then-size-held
+loop-till-smaller-then-size-held c =
+    let y = row_tried (goal.at.loop-till-smaller-then-size-held c).In-Row in
+    rw c.level_of.ensures (falls_on y c.loop-till.whole (open_turn y c.loop-till.whole refl c.if-boxed.true c.if-level.true c.if-size-held.true))
 
 pub loop-till-preserved-then-size-held : goal.loop-till-preserved-then-size-held
 loop-till-preserved-then-size-held c =
-    let r = c in
-    rw c.level_of.ensures
-    (onward (tried r) _ _ _ (open_turn (turn (tried r)) (whole r) r.tried-in-Row-1.given.1 c.if-boxed.true c.if-level.true c.if-size-held.true))
+    let y = row_tried (goal.at.loop-till-preserved-then-size-held c).In-Row in
+    let n = open_turn y c.loop-till.whole refl c.if-boxed.true c.if-level.true c.if-size-held.true in
+    rw c.level_of.ensures (record { knows = c.recall-seen.ensures.0; placed = n.place; ends = c.loop-till.invariant.ends ∙ n.same })
+
+-- none is
+module _ (c : Joined-boxed)
+    (y : Tried (walked c.args.bytes.now c.args.rules.now c.args.limit c.args.room)
+    (place c.loop-till.around c.loop-till.level (level_of c.loop-till.at c.loop-till.till c.loop-till.parent))
+    c.loop-till.spans c.try_next-tried.new.spans c.loop-till.rows c.loop-till.tries (Row c.in-Row.held c.in-Row.declared c.in-Row.size c.in-Row.boxed)) where
+  abbrev further : Place
+  further = place c.loop-till.around c.loop-till.level (level_of (c.loop-till.at + c.in-Row.declared) c.loop-till.till c.loop-till.parent)
+
+  passed : On y c.loop-till.whole further (c.loop-till.rows + 1) c.if-boxed.whole
+  passed =
+      elim c.if-boxed.branch [
+        then-boxed+then-level+else-size-held w ↦ rw w.whole-is (short_turn y c.loop-till.whole refl w.if-boxed.true w.if-level.true w.if-size-held.false)
+        | then-boxed+else-level w ↦ rw w.whole-is (deep_turn y c.loop-till.whole refl w.if-boxed.true w.if-level.false)
+        | else-boxed w ↦ rw w.whole-is (plain_turn y c.loop-till.whole refl w.if-boxed.false)
+      ]
 
 pub loop-till-smaller : goal.loop-till-smaller
-loop-till-smaller c = let r = c in falls_on (turn (tried r)) (whole r) (passed c)
+loop-till-smaller c =
+    let y = row_tried (goal.at.loop-till-smaller c).In-Row in
+    falls_on y c.loop-till.whole (passed c y)
 
 pub loop-till-preserved : goal.loop-till-preserved
-loop-till-preserved c = onward (tried c) _ _ _ (passed c)
+loop-till-preserved c =
+    let n = passed c (row_tried (goal.at.loop-till-preserved c).In-Row) in
+    record { knows = c.recall-seen.ensures.0; placed = n.place; ends = c.loop-till.invariant.ends ∙ n.same }
