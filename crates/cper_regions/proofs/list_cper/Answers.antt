@@ -2,7 +2,6 @@
 -- The walk of all regions is that of the definition. Assumes nothing.
 use mathlib.Core.Path.{◌≡◌, sym, ◌∙◌}
 use mathlib.Core.Bool.{true, false}
-use Prim.Native.Nat.{◌<◌, ◌^◌}
 use native.Mathlib.Omega.{arith}
 use Rattle.rules.specs.Rules.{valid_of}
 use Rattle.rules.proofs.Laws.{valid_rows}
@@ -19,7 +18,7 @@ pub returns-then-cper-gt-MOST_BYTES : goal.returns-then-cper-gt-MOST_BYTES
 returns-then-cper-gt-MOST_BYTES c =
     let a = c.args in
     let f = with_fit a.rules.now a.cper.now a.record_id.now a.limit a.spans.now
-        (rw c.refused.ensures (listed_long a.rules.now a.cper.now a.record_id.now a.limit a.spans.now (omega arith))) in
+    (rw c.refused.ensures (listed_long a.rules.now a.cper.now a.record_id.now a.limit a.spans.now (omega arith))) in
     record { result_after = f.0; width_in_bounds = f.1 }
 
 pub returns-then-not-valid : goal.returns-then-not-valid
@@ -27,7 +26,7 @@ returns-then-not-valid c =
     let a = c.args in
     let bad : valid_of a.rules.now ≡ false = sym c.valid.ensures ∙ c.if-not-valid.true in
     let f = with_fit a.rules.now a.cper.now a.record_id.now a.limit a.spans.now
-        (rw c.refused-then-not-valid.ensures (listed_rules a.rules.now a.cper.now a.record_id.now a.limit a.spans.now (omega arith) bad)) in
+    (rw c.refused-then-not-valid.ensures (listed_rules a.rules.now a.cper.now a.record_id.now a.limit a.spans.now (omega arith) bad)) in
     record { result_after = f.0; width_in_bounds = f.1 }
 
 pub returns-then-not-is_cper : goal.returns-then-not-is_cper
@@ -36,7 +35,7 @@ returns-then-not-is_cper c =
     let good : valid_of a.rules.now ≡ true = sym c.valid.ensures ∙ c.if-not-valid.false in
     let other : is_cper a.cper.now ≡ false = sym c.is_cper.ensures ∙ c.if-not-is_cper.true in
     let f = with_fit a.rules.now a.cper.now a.record_id.now a.limit a.spans.now
-        (rw c.refused-then-not-is_cper.ensures (listed_header a.rules.now a.cper.now a.record_id.now a.limit a.spans.now (omega arith) good other)) in
+    (rw c.refused-then-not-is_cper.ensures (listed_header a.rules.now a.cper.now a.record_id.now a.limit a.spans.now (omega arith) good other)) in
     record { result_after = f.0; width_in_bounds = f.1 }
 
 -- ---- the work
@@ -64,7 +63,7 @@ returns c =
     let is : is_cper a.cper.now ≡ true = sym c.is_cper.ensures ∙ c.if-not-is_cper.false in
     let y = c.walk_sections-end in
     let f = with_fit a.rules.now a.cper.now a.record_id.now a.limit a.spans.now
-        (rw (c.listing_at.ensures, c.walk_end.ensures)
-        (listed_run a.rules.now a.cper.now a.record_id.now a.limit a.spans.now (omega arith) good is (y.new.spans, y.result)
-        (rw (c.bounds_of-bounds.ensures, c.columns_of-columns.ensures, start_table a.rules.now a.limit a.spans.now good) at y.ensures))) in
+    (rw (c.listing_at.ensures, c.walk_end.ensures)
+    (listed_run a.rules.now a.cper.now a.record_id.now a.limit a.spans.now (omega arith) good is (y.new.spans, y.result)
+    (rw (c.bounds_of-bounds.ensures, c.columns_of-columns.ensures, start_table a.rules.now a.limit a.spans.now good) at y.ensures))) in
     record { result_after = f.0; width_in_bounds = f.1 }

@@ -16,7 +16,7 @@ invariant-loop-section l = record {
   on : l.index ≤ l.count;
   same : length l.spans ≡ length l.initial.spans;
   ends : sections_run l.cper l.record_id l.rules l.bounds (kept_in l.cper l.index l.count) (going l.spans l.rows l.tries l.whole)
-      ≡ sections_run l.cper l.record_id l.rules l.bounds (kept_of l.cper) (going l.initial.spans 0 0 true)
+      ≡ sections_run l.cper l.record_id l.rules l.bounds (kept_of l.cper) (going l.initial.spans 0 0 true);
 }
 
 abbrev pub decreases-loop-section : goal.decreases-loop-section

@@ -1,15 +1,9 @@
 -- `put_columns` puts the numbers one after the other.
 -- The loop's invariant: the numbers passed are put, each in at most `most_column` bytes. Assumes nothing.
-use mathlib.Core.Path.{◌≡◌}
-use mathlib.Core.List.{List}
-use Prim.Native.Nat.{ℕ, ◌+◌, ◌-◌, ◌*◌, ◌≤◌, ◌<◌}
-use native.Mathlib.Numerals.{add-one}
-use native.Mathlib.Omega.{arith}
-use lib.ListN.{length, take, get_or}
-use lib.Seq.{take-suc, take_all}
+use Prim.Native.Nat.{◌-◌, ◌*◌, ◌≤◌}
+use lib.ListN.{take}
 use Rattle.text.specs.Dump.{each, column}
 use Rattle.text.specs.Steps.{Puts, most_column}
-use Rattle.text.proofs.Pieces.{then, keeps_length, nothing, each_none, each_more}
 use Rattle.text.proofs.put_columns.Given as goal
 
 abbrev pub invariant-loop-i : goal.invariant-loop-i

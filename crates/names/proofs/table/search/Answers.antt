@@ -58,21 +58,17 @@ loop-place-init c = refl
 pub returns-then-entry-record_type : goal.returns-then-entry-record_type
 unfolding named
 returns-then-entry-record_type c =
-    let turn = c in
-    let place = turn.loop-place.place in
-    let here = looked place turn.entries-table.ensures (omega arith) in
-    hit turn.args.record_type place (omega arith) here turn.loop-place.invariant c.if-entry-record_type.true
+    let place = c.loop-place.place in
+    let here = looked place c.entries-table.ensures (omega arith) in
+    hit c.args.record_type place (omega arith) here c.loop-place.invariant c.if-entry-record_type.true
 
 pub loop-place-preserved : goal.loop-place-preserved
 unfolding named
 loop-place-preserved c =
-    let turn = c in
-    let place = turn.loop-place.place in
-    let here = looked place turn.entries-table.ensures (omega arith) in
-    miss turn.args.record_type place (omega arith) here turn.loop-place.invariant c.if-entry-record_type.false
+    let place = c.loop-place.place in
+    let here = looked place c.entries-table.ensures (omega arith) in
+    miss c.args.record_type place (omega arith) here c.loop-place.invariant c.if-entry-record_type.false
 
 pub returns : goal.returns
 unfolding named padded
-returns c =
-    let turn = c in
-    ap padded (sym (ended turn.args.record_type turn.loop-place.place (omega arith) turn.loop-place.invariant))
+returns c = ap padded (sym (ended c.args.record_type c.loop-place.place (omega arith) c.loop-place.invariant))

@@ -1,11 +1,8 @@
 -- `put_decimal` puts the digits that `io::decimal` writes.
 -- They are those of the definition, at most 20. Assumes nothing.
-use mathlib.Core.Path.{◌≡◌, ap, ◌∙◌}
-use mathlib.Core.List.{List}
-use Prim.Native.Nat.{ℕ, ◌≤◌}
+use mathlib.Core.Path.{ap, ◌∙◌}
 use native.Mathlib.Omega.{arith}
-use lib.ListN.{length, take}
-use Rattle.text.specs.Number.{decimal}
+use lib.ListN.{length}
 use Rattle.text.specs.Steps.{most_digits}
 use Rattle.text.proofs.Numbers.{decimal_is, decimal_le}
 use Rattle.text.proofs.Pieces.{fewer}

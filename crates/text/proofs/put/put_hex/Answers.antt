@@ -1,10 +1,8 @@
 -- `put_hex` puts the digits that `io::hex` writes.
 -- They are those of the definition, at most 8. Assumes nothing.
-use mathlib.Core.Path.{◌≡◌, ap, ◌∙◌}
-use Prim.Native.Nat.{ℕ, ◌≤◌}
+use mathlib.Core.Path.{ap, ◌∙◌}
 use native.Mathlib.Omega.{arith}
-use lib.ListN.{length, take}
-use Rattle.text.specs.Number.{hex}
+use lib.ListN.{length}
 use Rattle.text.proofs.Numbers.{hex_is, length-hex}
 use Rattle.text.proofs.Pieces.{fewer}
 use Rattle.text.proofs.put.put_hex.Goals as goal
