@@ -6,7 +6,7 @@ use Rattle.header.specs.Header.{number_of, type_told, ending_told}
 use Rattle.header.specs.declared.Answer.{Answer}
 use Rattle.header.specs.declared.Decoded.{Decoded}
 use Rattle.header_encode.specs.Encode.{encoded_of}
-use Rattle.header_encode.specs.Encode.{number_of as encodeNumber}
+use Rattle.header_encode.specs.Encode.{number_of as encode_number}
 use Rattle.header_encode.specs.declared.Encoded.{Encoded}
 use Rattle.c_header.specs.Header.{header_out, sound, header_in}
 use Rattle.c_header.specs.declared.CHeader.{CHeader}
@@ -26,7 +26,7 @@ decode_out old d =
 
 -- the output, the length that was written, and the answer
 abbrev pub encoded_out : List ℕ × Encoded → List ℕ × ℕ × ℕ
-encoded_out end = (end.0, end.1.length, encodeNumber end.1.answer)
+encoded_out end = (end.0, end.1.length, encode_number end.1.answer)
 
 -- bad rules come first, then a header that is none
 unfoldable pub encode_out : List ℕ → CHeader → List ℕ → List ℕ × ℕ × ℕ

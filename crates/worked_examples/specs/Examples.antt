@@ -11,7 +11,7 @@ use Rattle.header.specs.declared.access.Die.{Die}
 use Rattle.region_rows.specs.declared.Span.{Span}
 use Rattle.region_rows.specs.Rows.{width, top, span_at, flat}
 use Rattle.region_try.specs.Stops.{stop_number}
-use Rattle.region.specs.Listing.{listed, type_of, number_of as listingNumber}
+use Rattle.region.specs.Listing.{listed, type_of, number_of as listing_number}
 
 -- ---- the kinds of examples
 
@@ -219,11 +219,11 @@ counted word = (0x01 ∷ 0x36 ∷ 0x12 ∷ 0x03 ∷ replicate 22 0) ++ (word % 2
 unfoldable pub computed : Example → List ℕ
 computed (lists bytes limit room answer type rows tries whole stop spans) =
     let end = listed [] bytes limit (replicate (room * width) 0) in
-    listingNumber end.1.answer ∷ type_of end.1.answer ∷ end.1.rows ∷ end.1.tries ∷ bit end.1.whole ∷ stop_number end.1.stop
+    listing_number end.1.answer ∷ type_of end.1.answer ∷ end.1.rows ∷ end.1.tries ∷ bit end.1.whole ∷ stop_number end.1.stop
     ∷ take (end.1.rows * width) end.0
 computed (marks bytes answer whole) =
     let end = listed (always 8) bytes 9 (replicate (9 * width) 0) in
-    listingNumber end.1.answer ∷ bit end.1.whole ∷ []
+    listing_number end.1.answer ∷ bit end.1.whole ∷ []
 computed (ends bytes ending) =
     let end = decoded_of [] bytes in
     number_of end.answer ∷ ending_told end.answer ∷ []
@@ -233,7 +233,7 @@ computed (die revision id) =
 computed (names type revision flags socket id) =
     let end = listed (always flags) (marked type revision) 9 (replicate (9 * width) 0) in
     let first = span_at end.0 0 in
-    listingNumber end.1.answer ∷ first.socket ∷ first.die ∷ first.flags ∷ []
+    listing_number end.1.answer ∷ first.socket ∷ first.die ∷ first.flags ∷ []
 computed (half word count complete size) =
     let end = decoded_of [] (counted word) in
     number_of end.answer ∷ end.header_size ∷ half_in end.header.header_type

@@ -66,7 +66,7 @@ module _ (t : ℕ) (c : region_walk-Joined-word-last t) where
   memory =
       remembered table c.word_of-word.result c.loop-at.last c.loop-at.known c.if-word-last.last c.if-word-last.known c.loop-at.invariant.flags
       (elim c.if-word-last.branch [
-        region_walk-then-word-last w ↦ inl (w.last-is, w.known-is ∙ w.flags-known.ensures)
+        | region_walk-then-word-last w ↦ inl (w.last-is, w.known-is ∙ w.flags-known.ensures)
         | region_walk-else-word-last w ↦ inr (w.if-word-last.false, w.last-is, w.known-is)
       ])
 
@@ -146,10 +146,10 @@ region_walk-loop-at-preserved t c =
     let p = placed c.args.bytes.now c.args.rules.now c.args.bounds.now c.args.base c.args.levels c.args.parent in
     let next = l.at + c.in-Row.declared in
     let on : rest p l.at l.spans l.rows l.tries l.whole ≡ rest p next c.if-boxed.spans c.if-boxed.rows c.if-boxed.tries c.if-boxed.whole =
-        elim c.if-boxed.branch [
-          region_walk-then-boxed+in-Going w ↦ box_turn turn l.whole refl w.if-boxed.true w.box_walk-inner.ensures w.in-Going.is ∙ rest_same p next w.spans-is w.rows-is w.tries-is w.whole-is
-          | region_walk-else-boxed w ↦ plain_turn turn l.whole refl w.if-boxed.false ∙ rest_same p next w.spans-is w.rows-is w.tries-is w.whole-is
-        ] in
+    elim c.if-boxed.branch [
+      | region_walk-then-boxed+in-Going w ↦ box_turn turn l.whole refl w.if-boxed.true w.box_walk-inner.ensures w.in-Going.is ∙ rest_same p next w.spans-is w.rows-is w.tries-is w.whole-is
+      | region_walk-else-boxed w ↦ plain_turn turn l.whole refl w.if-boxed.false ∙ rest_same p next w.spans-is w.rows-is w.tries-is w.whole-is
+    ] in
     record { flags = kept t a.Joined-word-last; ends = l.invariant.ends ∙ on }
 
 pub region_walk-returns : goal.region_walk-returns
