@@ -43,8 +43,8 @@ returns c =
     let good : valid_of a.rules.now ≡ true = sym c.valid.ensures ∙ c.if-not-valid.false in
     let y = c.region_walk in
     let e : ◌≡◌ {A = List ℕ × Listing} (y.new.spans, c.listing_at.result) (listed a.rules.now a.region.now a.limit a.spans.now) =
-        rw c.listing_at.ensures
-        (listed_run a.rules.now a.region.now a.limit a.spans.now (omega arith) good (y.new.spans, y.result)
-        (rw (c.bounds_of-bounds.ensures, c.columns_of-columns.ensures, start_table a.rules.now a.limit a.spans.now good) at y.ensures)) in
+    rw c.listing_at.ensures
+    (listed_run a.rules.now a.region.now a.limit a.spans.now (omega arith) good (y.new.spans, y.result)
+    (rw (c.bounds_of-bounds.ensures, c.columns_of-columns.ensures, start_table a.rules.now a.limit a.spans.now good) at y.ensures)) in
     let p = with_fit a.rules.now a.region.now a.limit a.spans.now e in
     record { result_after = p.0; width_in_bounds = p.1 }

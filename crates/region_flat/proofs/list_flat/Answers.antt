@@ -25,7 +25,7 @@ returns c =
     let a = c.args in
     let y = c.flat_walk in
     let e : ◌≡◌ {A = List ℕ × Listing} (y.new.spans, c.listing_at.result) (listed a.rules.now a.region.now a.limit a.spans.now) =
-        rw c.listing_at.ensures
-        (listed_run a.rules.now a.region.now a.limit a.spans.now (omega arith) (sym c.valid.ensures ∙ c.if-not-valid.false) (y.new.spans, y.result) (rw c.room_of.ensures at y.ensures)) in
+    rw c.listing_at.ensures
+    (listed_run a.rules.now a.region.now a.limit a.spans.now (omega arith) (sym c.valid.ensures ∙ c.if-not-valid.false) (y.new.spans, y.result) (rw c.room_of.ensures at y.ensures)) in
     let p = with_fit a.rules.now a.region.now a.limit a.spans.now e in
     record { result_after = p.0; width_in_bounds = p.1 }

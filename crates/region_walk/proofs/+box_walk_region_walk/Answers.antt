@@ -1,6 +1,6 @@
 -- The region walk and the Box walk run the tries of a region and those inside a Box.
 -- Each end and each turn of the loop is the invariant with the lemma of what the try finds. Assumes nothing.
-use Rattle.std.proofs.Common.{◌≡◌, ℕ, ◌+◌, ◌-◌, ◌≤◌, ◌<◌, length, length-drop, sym, refl, ap, ◌∙◌, subst, inl, inr, arith, List, leb}
+use Rattle.std.proofs.Common.{◌≡◌, ℕ, ◌+◌, ◌-◌, ◌≤◌, ◌<◌, length, sym, refl, ap, ◌∙◌, inl, inr, arith, List, leb}
 use mathlib.Core.Bool.{◌&&◌}
 use Rattle.basics.proofs.Parts.{tail_part}
 use Rattle.rules.specs.Rules.{flags_of}
@@ -12,7 +12,7 @@ use Rattle.region_try.proofs.Whole.{box_shut, box_header, box_opens}
 use Rattle.region_try.specs.declared.Found.{Found}
 use Rattle.region_try.specs.declared.Found.TheVariants.{Row}
 use Rattle.region_walk.specs.Steps.{limit_in, room_in, table_in, going}
-use Rattle.region_walk.proofs.Turn.{held_fits, child_counts, Place, placed, rest, entire, rest_start, rest_same, rest_end, rest_spent, Tried, tried_at, stop_turn, full_turn, row_free, row_held, plain_turn, box_turn, box_cut}
+use Rattle.region_walk.proofs.Turn.{held_fits, child_counts, Place, placed, rest, rest_start, rest_same, rest_end, rest_spent, Tried, tried_at, stop_turn, full_turn, row_free, row_held, plain_turn, box_turn, box_cut}
 use Rattle.region_walk.proofs.+box_walk_region_walk.Goals.{region_walk-Joined-word-last, region_walk-In-Row, region_walk-then-word-last, region_walk-else-word-last, region_walk-then-boxed+in-Going, region_walk-else-boxed}
 use Rattle.region_walk.proofs.+box_walk_region_walk.Goals as goal
 
@@ -66,7 +66,7 @@ module _ (t : ℕ) (c : region_walk-Joined-word-last t) where
   memory =
       remembered table c.word_of-word.result c.loop-at.last c.loop-at.known c.if-word-last.last c.if-word-last.known c.loop-at.invariant.flags
       (elim c.if-word-last.branch [
-        region_walk-then-word-last w ↦ inl (w.last-is, w.known-is ∙ w.flags-known.ensures)
+        | region_walk-then-word-last w ↦ inl (w.last-is, w.known-is ∙ w.flags-known.ensures)
         | region_walk-else-word-last w ↦ inr (w.if-word-last.false, w.last-is, w.known-is)
       ])
 
@@ -146,10 +146,10 @@ region_walk-loop-at-preserved t c =
     let p = placed c.args.bytes.now c.args.rules.now c.args.bounds.now c.args.base c.args.levels c.args.parent in
     let next = l.at + c.in-Row.declared in
     let on : rest p l.at l.spans l.rows l.tries l.whole ≡ rest p next c.if-boxed.spans c.if-boxed.rows c.if-boxed.tries c.if-boxed.whole =
-        elim c.if-boxed.branch [
-          region_walk-then-boxed+in-Going w ↦ box_turn turn l.whole refl w.if-boxed.true w.box_walk-inner.ensures w.in-Going.is ∙ rest_same p next w.spans-is w.rows-is w.tries-is w.whole-is
-          | region_walk-else-boxed w ↦ plain_turn turn l.whole refl w.if-boxed.false ∙ rest_same p next w.spans-is w.rows-is w.tries-is w.whole-is
-        ] in
+    elim c.if-boxed.branch [
+      | region_walk-then-boxed+in-Going w ↦ box_turn turn l.whole refl w.if-boxed.true w.box_walk-inner.ensures w.in-Going.is ∙ rest_same p next w.spans-is w.rows-is w.tries-is w.whole-is
+      | region_walk-else-boxed w ↦ plain_turn turn l.whole refl w.if-boxed.false ∙ rest_same p next w.spans-is w.rows-is w.tries-is w.whole-is
+    ] in
     record { flags = kept t a.Joined-word-last; ends = l.invariant.ends ∙ on }
 
 pub region_walk-returns : goal.region_walk-returns

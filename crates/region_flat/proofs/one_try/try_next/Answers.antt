@@ -71,7 +71,7 @@ returns c =
     let bounds = size.measured there in
     record {
       result_after =
-        finds_record a.level a.parent a.offset a.bytes.now a.memory.word a.memory.flags some a.room a.rows a.spans.now (omega arith)
-            c.put.ensures c.span_of-span.ensures c.summary_of-summary.ensures (says a.bytes.now a.memory.word a.memory.flags _ is more) size.value c.is_box.ensures;
+          finds_record a.level a.parent a.offset a.bytes.now a.memory.word a.memory.flags some a.room a.rows a.spans.now (omega arith)
+          c.put.ensures c.span_of-span.ensures c.summary_of-summary.ensures (says a.bytes.now a.memory.word a.memory.flags _ is more) size.value c.is_box.ensures;
       row_bounds = (omega arith, c.declared_in-declared.ensures.1, omega (arith, bounds.least), bounds.most);
     }

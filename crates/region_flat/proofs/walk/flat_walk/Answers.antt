@@ -1,6 +1,6 @@
 -- `flat_walk` runs the tries of the whole input.
 -- Each end and each turn of the loop is the invariant with the lemma of what the try finds. Assumes nothing.
-use Rattle.std.proofs.Common.{◌≡◌, ℕ, ◌+◌, ◌-◌, ◌<◌, ◌≤◌, [], ◌∷◌, length, length-take, length-drop, sym, refl, subst, ◌∙◌, arith}
+use Rattle.std.proofs.Common.{◌+◌, ◌-◌, ◌<◌, ◌≤◌, [], ◌∷◌, length, sym, refl, subst, ◌∙◌, arith}
 use Rattle.region_flat.specs.Steps.{level_of}
 use Rattle.region_flat.specs.declared.walk.Level.{Level}
 use Rattle.region_try.specs.declared.Found.TheVariants.{Nothing, Row}
@@ -98,8 +98,8 @@ returns-in-NoRoom c =
     let p = walked a.bytes.now a.rules.now a.limit a.room in
     let ready : Ready p (place l.around l.level (level_of l.at l.till l.parent)) = record { some = c.if-till-at.false; place = l.invariant.placed } in
     let y =
-        tried_at p c.recall-seen.result.word c.recall-seen.result.flags ready c.if-limit-tries.false
-        (c.recall-seen.ensures.1 ∙ c.word_of.ensures) c.recall-seen.ensures.0.0 c.in-NoRoom.ensures.result_after c.in-NoRoom.ensures.row_bounds in
+    tried_at p c.recall-seen.result.word c.recall-seen.result.flags ready c.if-limit-tries.false
+    (c.recall-seen.ensures.1 ∙ c.word_of.ensures) c.recall-seen.ensures.0.0 c.in-NoRoom.ensures.result_after c.in-NoRoom.ensures.row_bounds in
     rw c.walk_end-in-NoRoom.ensures (sym (l.invariant.ends ∙ full_turn y l.whole refl))
 
 -- ---- a record
@@ -152,7 +152,7 @@ module _ (c : Joined-boxed)
   passed : On y c.loop-till.whole further (c.loop-till.rows + 1) c.if-boxed.whole
   passed =
       elim c.if-boxed.branch [
-        then-boxed+then-level+else-size-held w ↦ rw w.whole-is (short_turn y c.loop-till.whole refl w.if-boxed.true w.if-level.true w.if-size-held.false)
+        | then-boxed+then-level+else-size-held w ↦ rw w.whole-is (short_turn y c.loop-till.whole refl w.if-boxed.true w.if-level.true w.if-size-held.false)
         | then-boxed+else-level w ↦ rw w.whole-is (deep_turn y c.loop-till.whole refl w.if-boxed.true w.if-level.false)
         | else-boxed w ↦ rw w.whole-is (plain_turn y c.loop-till.whole refl w.if-boxed.false)
       ]
