@@ -1,6 +1,6 @@
 -- One try from its parts: what is known of a word's flags, what is found where no byte is declared, and the record where some are.
 -- By the header's word and size, as the definition tests them. Assumes nothing.
-use mathlib.Core.Path.{◌≡◌, refl, ap, sym, ◌∙◌}
+use mathlib.Core.Path.{◌≡◌, refl, sym, ◌∙◌}
 use mathlib.Core.List.{List, [], ◌∷◌}
 use mathlib.Core.Bool.{Bool, true, false, cond}
 use Prim.Native.Nat.{ℕ, zero, suc, ◌<◌}
@@ -11,13 +11,12 @@ use borrow.Author.Tests.{eqb-true, eqb-false}
 use Rattle.rules.specs.Rules.{rules_of, with_rules, flags_of}
 use Rattle.header_judge.specs.Version.{no_word, header_type}
 use Rattle.header_judge.specs.Head.{no_size, lacking, size_of, declared_of, is_box, summary_of, head_with, declared_by}
-use Rattle.header_judge.specs.Steps.{Known}
 use Rattle.header_judge.specs.declared.Summary.{Summary}
 use Rattle.header_judge.proofs.Heads.{declared_record, word_there, header_there}
 use Rattle.region_rows.specs.declared.Span.{Span}
 use Rattle.region_rows.specs.Rows.{with_span}
 use Rattle.region_try.specs.Tries.{hit, span_of}
-use Rattle.region_try.specs.Steps.{try_at, found, RowBounds}
+use Rattle.region_try.specs.Steps.{try_at, found}
 use Rattle.region_try.specs.declared.stop.Stop.TheVariants.{BadHeader, BadType, SizeZero}
 use Rattle.region_try.specs.declared.Found.{Found}
 use Rattle.region_try.specs.declared.Found.TheVariants.{Nothing, Row}

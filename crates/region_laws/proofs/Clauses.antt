@@ -3,7 +3,7 @@
 use mathlib.Core.Path.{◌≡◌, refl, ap, ap₂, sym, ◌∙◌}
 use mathlib.Core.List.{List, [], ◌∷◌, ◌++◌}
 use mathlib.Core.Bool.{Bool, true, false, cond, not, ◌&&◌, and_assoc}
-use mathlib.Core.Logic.{◌⊎◌, inl, inr, ⊎_elim, ◌↔◌}
+use mathlib.Core.Logic.{inl, inr, ⊎_elim, ◌↔◌}
 use Prim.Native.Nat.{ℕ, zero, suc, ◌+◌, ◌-◌, ◌≤◌, ◌<◌}
 use native.Mathlib.Omega.{arith}
 use lib.Dec.{eqb, leb, ltb}
@@ -20,7 +20,6 @@ use Rattle.region_rows.proofs.Rows.{spans_laid}
 use Rattle.region_try.specs.Stops.{stop_by, stop_of, bad_type_of}
 use Rattle.region_try.specs.Tries.{Try, none, hit, span_of, try_of, deepest, rows_found, Inside, within, onward, records, box_tries, region_tries, all_tries}
 use Rattle.region_try.specs.Whole.{clean_stop, filled, box_unopened, keeps_whole, all_keep_whole}
-use Rattle.region_try.specs.declared.stop.Stop as Stop
 use Rattle.region_try.specs.declared.stop.Stop.{Stop}
 use Rattle.region.specs.Listing.{Shown, number_of, whole_of, top_stands, shown, showing, walked, listed}
 use Rattle.region.specs.declared.Answer.{Answer}

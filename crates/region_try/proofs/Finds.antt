@@ -5,7 +5,7 @@ use mathlib.Core.List.{List}
 use mathlib.Core.Bool.{Bool, true, false, cond}
 use Prim.Native.Nat.{ℕ, zero, suc, ◌≤◌, ◌<◌}
 use native.Mathlib.Omega.{arith}
-use lib.Dec.{eqb, leb}
+use lib.Dec.{leb}
 use borrow.Author.Tests.{leb-false, le-leb, lt-leb}
 use Rattle.header_judge.specs.Version.{header_type}
 use Rattle.header_judge.specs.Head.{no_size, lacking, is_box}
@@ -13,7 +13,7 @@ use Rattle.region_rows.specs.declared.Span.{Span}
 use Rattle.region_rows.specs.Rows.{with_span}
 use Rattle.region_try.specs.Stops.{stop_by, bad_type_by}
 use Rattle.region_try.specs.Tries.{Try, none, hit}
-use Rattle.region_try.specs.Steps.{sizeless, found, RowBounds}
+use Rattle.region_try.specs.Steps.{sizeless, found}
 use Rattle.region_try.specs.declared.stop.Stop.{Stop}
 use Rattle.region_try.specs.declared.stop.Stop.TheVariants.{BadHeader, BadType}
 use Rattle.region_try.specs.declared.Found.{Found}

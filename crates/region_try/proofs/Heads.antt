@@ -18,7 +18,6 @@ use Rattle.region_rows.specs.declared.Span.{Span}
 use Rattle.region_try.specs.Stops.{stop_ended, stop_by, bad_type_by}
 use Rattle.region_try.specs.Tries.{Try, span_of, none, hit, try_of}
 use Rattle.region_try.specs.Steps.{try_at}
-use Rattle.region_try.specs.declared.stop.Stop as Stop
 use Rattle.region_try.specs.declared.stop.Stop.{Stop}
 
 -- a try that finds no record, the reason and the bad type that it gives

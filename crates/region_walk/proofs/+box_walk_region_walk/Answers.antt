@@ -1,6 +1,6 @@
 -- The region walk and the Box walk run the tries of a region and those inside a Box.
 -- Each end and each turn of the loop is the invariant with the lemma of what the try finds. Assumes nothing.
-use Rattle.std.proofs.Common.{◌≡◌, ℕ, ◌+◌, ◌-◌, ◌≤◌, ◌<◌, length, length-drop, sym, refl, ap, ◌∙◌, subst, inl, inr, arith, List, leb}
+use Rattle.std.proofs.Common.{◌≡◌, ℕ, ◌+◌, ◌-◌, ◌≤◌, ◌<◌, length, sym, refl, ap, ◌∙◌, inl, inr, arith, List, leb}
 use mathlib.Core.Bool.{◌&&◌}
 use Rattle.basics.proofs.Parts.{tail_part}
 use Rattle.rules.specs.Rules.{flags_of}
@@ -12,7 +12,7 @@ use Rattle.region_try.proofs.Whole.{box_shut, box_header, box_opens}
 use Rattle.region_try.specs.declared.Found.{Found}
 use Rattle.region_try.specs.declared.Found.TheVariants.{Row}
 use Rattle.region_walk.specs.Steps.{limit_in, room_in, table_in, going}
-use Rattle.region_walk.proofs.Turn.{held_fits, child_counts, Place, placed, rest, entire, rest_start, rest_same, rest_end, rest_spent, Tried, tried_at, stop_turn, full_turn, row_free, row_held, plain_turn, box_turn, box_cut}
+use Rattle.region_walk.proofs.Turn.{held_fits, child_counts, Place, placed, rest, rest_start, rest_same, rest_end, rest_spent, Tried, tried_at, stop_turn, full_turn, row_free, row_held, plain_turn, box_turn, box_cut}
 use Rattle.region_walk.proofs.+box_walk_region_walk.Goals.{region_walk-Joined-word-last, region_walk-In-Row, region_walk-then-word-last, region_walk-else-word-last, region_walk-then-boxed+in-Going, region_walk-else-boxed}
 use Rattle.region_walk.proofs.+box_walk_region_walk.Goals as goal
 

@@ -1,6 +1,6 @@
 -- `flat_walk` runs the tries of the whole input.
 -- Each end and each turn of the loop is the invariant with the lemma of what the try finds. Assumes nothing.
-use Rattle.std.proofs.Common.{◌≡◌, ℕ, ◌+◌, ◌-◌, ◌<◌, ◌≤◌, [], ◌∷◌, length, length-take, length-drop, sym, refl, subst, ◌∙◌, arith}
+use Rattle.std.proofs.Common.{◌+◌, ◌-◌, ◌<◌, ◌≤◌, [], ◌∷◌, length, sym, refl, subst, ◌∙◌, arith}
 use Rattle.region_flat.specs.Steps.{level_of}
 use Rattle.region_flat.specs.declared.walk.Level.{Level}
 use Rattle.region_try.specs.declared.Found.TheVariants.{Nothing, Row}
