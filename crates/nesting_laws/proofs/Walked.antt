@@ -58,11 +58,11 @@ module _ (level : ℕ) (box : Inside) (nests : Nests (suc level) box) where
           let opens : Opens row (rows_found tries) = λ plain. rw plain in
           let deep : Nest (suc level) n (offset + s.size) (offset + min s.declared (length bs)) (n + 1) (rows_found tries) =
           rw length-take at (within_nests (is_box s.word s.flags) (take s.declared bs) offset s.size n) in
-          let rest-nests : Nest level parent (offset + suc (s.declared - 1)) (offset + length bs) m (rows_found (rest (s.declared - 1) m)) = f (s.declared - 1) m in
+          let rest_nests : Nest level parent (offset + suc (s.declared - 1)) (offset + length bs) m (rows_found (rest (s.declared - 1) m)) = f (s.declared - 1) m in
           let more : Nest level parent (offset + min s.declared (length bs)) (offset + length bs) m (rows_found (rest (s.declared - 1) m)) =
           ⊎_elim
-          (λ (h : s.declared ≤ length bs). let at : offset + suc (s.declared - 1) ≡ offset + min s.declared (length bs) = omega arith in rw at at rest-nests)
-          (λ (h : length bs < s.declared). past (offset + min s.declared (length bs)) (omega arith) rest-nests)
+          (λ (h : s.declared ≤ length bs). let at : offset + suc (s.declared - 1) ≡ offset + min s.declared (length bs) = omega arith in rw at at rest_nests)
+          (λ (h : length bs < s.declared). past (offset + min s.declared (length bs)) (omega arith) rest_nests)
           (le_or_lt s.declared (length bs)) in
           rw (rows_append tries (rest (s.declared - 1) m)) (boxed row fits opens deep more)
 

@@ -14,29 +14,23 @@ use Rattle.cper_regions.proofs.list_cper.Goals as goal
 
 -- ---- refusals
 
-pub returns-then-cper-gt-MOST_BYTES : goal.returns-then-cper-gt-MOST_BYTES
-returns-then-cper-gt-MOST_BYTES c =
+pub returns-then-cper-gt-MOST_BYTES-clause-result_after : goal.returns-then-cper-gt-MOST_BYTES-clause-result_after
+returns-then-cper-gt-MOST_BYTES-clause-result_after c =
     let a = c.args in
-    let f = with_fit a.rules.now a.cper.now a.record_id.now a.limit a.spans.now
-    (rw c.refused.ensures (listed_long a.rules.now a.cper.now a.record_id.now a.limit a.spans.now (omega arith))) in
-    record { result_after = f.0; width_in_bounds = f.1 }
+    rw c.refused.ensures (listed_long a.rules.now a.cper.now a.record_id.now a.limit a.spans.now (omega arith))
 
-pub returns-then-not-valid : goal.returns-then-not-valid
-returns-then-not-valid c =
+pub returns-then-not-valid-clause-result_after : goal.returns-then-not-valid-clause-result_after
+returns-then-not-valid-clause-result_after c =
     let a = c.args in
     let bad : valid_of a.rules.now ≡ false = sym c.valid.ensures ∙ c.if-not-valid.true in
-    let f = with_fit a.rules.now a.cper.now a.record_id.now a.limit a.spans.now
-    (rw c.refused-then-not-valid.ensures (listed_rules a.rules.now a.cper.now a.record_id.now a.limit a.spans.now (omega arith) bad)) in
-    record { result_after = f.0; width_in_bounds = f.1 }
+    rw c.refused-then-not-valid.ensures (listed_rules a.rules.now a.cper.now a.record_id.now a.limit a.spans.now (omega arith) bad)
 
-pub returns-then-not-is_cper : goal.returns-then-not-is_cper
-returns-then-not-is_cper c =
+pub returns-then-not-is_cper-clause-result_after : goal.returns-then-not-is_cper-clause-result_after
+returns-then-not-is_cper-clause-result_after c =
     let a = c.args in
     let good : valid_of a.rules.now ≡ true = sym c.valid.ensures ∙ c.if-not-valid.false in
     let other : is_cper a.cper.now ≡ false = sym c.is_cper.ensures ∙ c.if-not-is_cper.true in
-    let f = with_fit a.rules.now a.cper.now a.record_id.now a.limit a.spans.now
-    (rw c.refused-then-not-is_cper.ensures (listed_header a.rules.now a.cper.now a.record_id.now a.limit a.spans.now (omega arith) good other)) in
-    record { result_after = f.0; width_in_bounds = f.1 }
+    rw c.refused-then-not-is_cper.ensures (listed_header a.rules.now a.cper.now a.record_id.now a.limit a.spans.now (omega arith) good other)
 
 -- ---- the work
 

@@ -3,9 +3,7 @@
 use mathlib.Core.Path.{◌≡◌, sym, ◌∙◌}
 use mathlib.Core.Bool.{true, false}
 use mathlib.Core.List.{[]}
-use Prim.Native.Nat.{◌≤◌}
-use native.Mathlib.Omega.{arith}
-use Rattle.cper_regions.specs.Regions.{section_header, is_opened}
+use Rattle.cper_regions.specs.Regions.{is_opened}
 use Rattle.cper_regions.proofs.Openings.{opened_long, region_part}
 use Rattle.cper_regions.proofs.Turns.{walk_none, walk_unopened, walk_region}
 use Rattle.cper_regions.proofs.walk_section.Goals as goal
@@ -16,18 +14,6 @@ returns-then-not-is_opened c =
     let shut : is_opened a.cper.now a.record_id.now a.section ≡ false = sym c.is_opened.ensures ∙ c.if-not-is_opened.true in
     rw c.counts.ensures
     (sym (walk_unopened a.cper.now a.record_id.now a.rules.now a.bounds.now a.section _ [] shut ∙ walk_none a.cper.now a.record_id.now a.rules.now a.bounds.now _))
-
-pub slice_bounds-region_walk-count : goal.slice_bounds-region_walk-count
-slice_bounds-region_walk-count c =
-    let a = c.args in
-    let long : section_header ≤ a.section.size = opened_long a.cper.now a.record_id.now a.section (sym c.is_opened.ensures ∙ c.if-not-is_opened.false) in
-    omega arith
-
-pub slice_bounds-region_walk-start : goal.slice_bounds-region_walk-start
-slice_bounds-region_walk-start c =
-    let a = c.args in
-    let long : section_header ≤ a.section.size = opened_long a.cper.now a.record_id.now a.section (sym c.is_opened.ensures ∙ c.if-not-is_opened.false) in
-    omega arith
 
 pub returns : goal.returns
 returns c =

@@ -37,19 +37,6 @@ returns-in_default c =
     (sym (walk_none a.cper.now a.record_id.now a.rules.now a.bounds.now _)
     ∙ ends_in a.cper.now a.record_id.now a.rules.now a.bounds.now _ c.in_default.ensures c.loop-section.invariant.ends)
 
-pub walk_section-walked-requires : goal.walk_section-walked-requires
-walk_section-walked-requires c =
-    let l = c.loop-section.invariant in
-    let f : Found c.args.cper.now c.loop-section.index c.section_count-count.result c.in-Kept.section = c.in-Kept.ensures in
-    let o = c.requires.1 in
-    let w = o.sound in (
-      record { few = omega (arith, f.below, l.few); within = f.within },
-      record {
-        short = o.short;
-        sound = record { limit = w.limit; room = w.room; rows = omega (arith, l.same, w.rows); columns = w.columns; blank = w.blank };
-      },
-    )
-
 pub returns-in_default-cut : goal.returns-in_default-cut
 returns-in_default-cut c =
     let a = c.args in

@@ -1,10 +1,9 @@
 -- `starts_with` tells whether the bytes from an offset on start with a GUID's.
 -- The loop's invariant: the bytes so far are the same and what is left of both starts alike, exactly where all of both does. Assumes nothing.
-use mathlib.Core.Path.{◌≡◌, ap, sym, ◌∙◌}
+use mathlib.Core.Path.{◌≡◌, sym, ◌∙◌}
 use mathlib.Core.Bool.{Bool, ◌&&◌, and_assoc, and-true}
 use mathlib.Core.List.{List}
 use Prim.Native.Nat.{ℕ, suc, ◌+◌, ◌≤◌, ◌<◌}
-use native.Mathlib.Nat.{add-zero}
 use native.Mathlib.Omega.{arith}
 use lib.Dec.{eqb}
 use lib.ListN.{length, drop, get_or, drop_of_length-le}
@@ -23,19 +22,13 @@ none : (guid s : List ℕ) (same : Bool) (i : ℕ) → length guid ≤ i → (sa
 unfolding starts_with
 none guid s same i h = rw (drop_of_length-le guid {i = i} h) (and-true same)
 
-pub loop-i-init : goal.loop-i-init
-loop-i-init c = (omega arith, ap (λ (k : ℕ). starts_with c.args.guid (drop k c.args.s.now)) (add-zero c.args.at))
-
 pub loop-i-preserved : goal.loop-i-preserved
 loop-i-preserved c =
-    let l = c in
-    let a = l.args in
-    let i = l.loop-i.i in
+    let a = c.args in
+    let i = c.loop-i.i in
     let step : i + 1 ≡ suc i = omega arith in
-    let step-at : a.at + (i + 1) ≡ suc (a.at + i) = omega arith in
-    (omega arith, next a.guid a.s.now l.loop-i.same (omega arith) (omega arith) step step-at ∙ l.loop-i.invariant.1)
+    let step_at : a.at + (i + 1) ≡ suc (a.at + i) = omega arith in
+    (omega arith, next a.guid a.s.now c.loop-i.same (omega arith) (omega arith) step step_at ∙ c.loop-i.invariant.1)
 
 pub returns : goal.returns
-returns c =
-    let l = c in
-    sym (none l.args.guid _ l.loop-i.same l.loop-i.i (omega arith)) ∙ l.loop-i.invariant.1
+returns c = sym (none c.args.guid _ c.loop-i.same c.loop-i.i (omega arith)) ∙ c.loop-i.invariant.1
