@@ -25,12 +25,7 @@ pub fn crashlog_decode(
 }
 
 // A header's bytes into an output, which a refusal leaves as it is, and their length.
-pub fn crashlog_encode(
-    header: &CHeader,
-    rules: &[u32],
-    out: &mut [u8],
-    length: &mut u64,
-) -> u32
+pub fn crashlog_encode(header: &CHeader, rules: &[u32], out: &mut [u8], length: &mut u64) -> u32
     ensures { (out.new, length.new, result) ≡ encode_out rules.now header.now out.old }
 {
     encode(*header, rules, out, length)
