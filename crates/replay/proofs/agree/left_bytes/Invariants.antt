@@ -4,8 +4,5 @@ use Prim.Native.Nat.{◌-◌}
 use lib.ListN.{length}
 use Rattle.replay.proofs.agree.left_bytes.Given as goal
 
-abbrev pub invariant-loop-i : goal.invariant-loop-i
-invariant-loop-i l = Unit {0}
-
 abbrev pub decreases-loop-i : goal.decreases-loop-i
 decreases-loop-i l = length l.buffer - l.i

@@ -3,8 +3,5 @@
 use Prim.Native.Nat.{◌-◌}
 use Rattle.replay.proofs.agree.tells.Given as goal
 
-abbrev pub invariant-loop-i : goal.invariant-loop-i
-invariant-loop-i l = Unit {0}
-
 abbrev pub decreases-loop-i : goal.decreases-loop-i
 decreases-loop-i l = 6 - l.i
