@@ -1,5 +1,5 @@
 // The C library: crashlog's functions, exported under the same names, each a call that promises the same.
-// A call gives its answer by document 01's number; what else it tells is written into what is lent for it. include/crashlog.h documents them for C.
+// A call gives the number of its answer; what else it tells is written into what is lent for it. include/crashlog.h documents them for C.
 #![tactic(auto)]
 
 ghost use Rattle.std.specs.Prelude.{◌≡◌};

@@ -1,4 +1,4 @@
-// The header calls with the header by value: a copy of it is lent to the very functions that C gets.
+// The header calls with the header by value: a copy of it is lent to the functions that the exports for C call.
 use c_header::CHeader;
 use crashlog::headers::{crashlog_decode, crashlog_encode};
 

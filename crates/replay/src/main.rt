@@ -2,6 +2,8 @@
 // The list is a file for each kind of call, in the folder that the program runs in. case.rt says how a case is laid out.
 #![tactic(auto)]
 
+ghost use Rattle.io.specs.Counts.{IsPrefixLen};
+
 use crate::agree::{UNTOUCHED, UNTOUCHED_WORD};
 use crate::case::{
     Case, ID_BYTES, MOST_CASE, MOST_INPUT, bytes_within, case_of, first_words, id_of, is_sound,
@@ -136,7 +138,9 @@ fn run(kind: Kind, buffer: &[u8], size: usize) -> Outcome {
 }
 
 // Reads until a buffer is full or the file ends, and tells how many bytes came. A read that fails ends the file.
-fn read_full(file: &mut impl Read, buffer: &mut [u8]) -> usize {
+fn read_full(file: &mut impl Read, buffer: &mut [u8]) -> usize
+    ensures { IsPrefixLen result buffer.new }
+{
     let mut count = 0;
     while count < buffer.len() {
         match file.read(&mut buffer[count..]) {

@@ -1,4 +1,4 @@
-// The receiver's calls with the receiver by value: a copy of it is lent to the very functions that C gets.
+// The receiver's calls with the receiver by value: a copy of it is lent to the functions that the exports for C call.
 ghost use Rattle.std.specs.Prelude.{◌≡◌};
 ghost use Rattle.receiver.specs.Calls.{started_out, fed_out, finished_out};
 
