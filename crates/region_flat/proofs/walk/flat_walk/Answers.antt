@@ -78,12 +78,12 @@ module _ (c : In-Nothing) where
 pub loop-till-smaller-then-level-gt0 : goal.loop-till-smaller-then-level-gt0
 loop-till-smaller-then-level-gt0 c =
     let y = stop_tried (goal.at.loop-till-smaller-then-level-gt0 c).In-Nothing in
-    falls_on y c.loop-till.whole (stop_turn y c.loop-till.whole refl c.if-level-gt0.true)
+    falls_on y c.loop-till.whole (stop_turn y c.loop-till.whole refl (omega arith))
 
 pub loop-till-preserved-then-level-gt0 : goal.loop-till-preserved-then-level-gt0
 loop-till-preserved-then-level-gt0 c =
     let y = stop_tried (goal.at.loop-till-preserved-then-level-gt0 c).In-Nothing in
-    let n = stop_turn y c.loop-till.whole refl c.if-level-gt0.true in
+    let n = stop_turn y c.loop-till.whole refl (omega arith) in
     rw c.clean_stop-whole.ensures (record { knows = c.recall-seen.ensures.0; placed = n.place; ends = c.loop-till.invariant.ends ∙ n.same })
 
 pub returns-else-level-gt0 : goal.returns-else-level-gt0
