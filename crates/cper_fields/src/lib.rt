@@ -103,7 +103,7 @@ pub fn put_bytes(out: &mut [u8], at: usize, field: &[u8])
     ensures { out.new ≡ over out.old at (length field.now) field.now }
 {
     let end = at + field.len();
-    out[at..end].copy_from_slice(field);
+    copies::copy(field, &mut out[at..end]);
 }
 
 // Writes a field of eight bytes.

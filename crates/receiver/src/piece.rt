@@ -30,7 +30,7 @@ fn keep(s: &[u8], at: usize, kept: &mut [u8])
 {
     let len = region_rows::least(s.len() - at, KEPT);
     let end = at + len;
-    kept[..len].copy_from_slice(&s[at..end]);
+    copies::copy(&s[at..end], &mut kept[..len]);
 }
 
 // Some bytes that are walked where they lie, from where the walk stands: the rest of them is kept. The flags of the last word are known.
@@ -75,8 +75,8 @@ fn join(kept: &[u8], piece: &[u8]) -> [u8; JOINED]
     let mut joined = [0u8; JOINED];
     let at = kept.len();
     let end = at + piece.len();
-    joined[..at].copy_from_slice(kept);
-    joined[at..end].copy_from_slice(piece);
+    copies::copy(kept, &mut joined[..at]);
+    copies::copy(piece, &mut joined[at..end]);
     joined
 }
 
@@ -119,7 +119,7 @@ fn take_in(held: usize, piece: &[u8], kept: &mut [u8]) -> usize
     let len = region_rows::least(held, KEPT);
     let more = region_rows::least(piece.len(), KEPT - len);
     let end = len + more;
-    kept[len..end].copy_from_slice(&piece[..more]);
+    copies::copy(&piece[..more], &mut kept[len..end]);
     end
 }
 

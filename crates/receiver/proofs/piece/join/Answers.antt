@@ -5,6 +5,6 @@ use Rattle.receiver.proofs.piece.join.Goals as goal
 
 pub returns : goal.returns
 returns c =
-    let one = c.copy_from_slice in
-    let last = c.copy_from_slice-2 in
-    joined_copy c.args.kept.now c.args.piece.now _ one.new.self last.new.self one.ensures.after last.ensures.after
+    let one = c.copy in
+    let last = c.copy-2 in
+    joined_copy c.args.kept.now c.args.piece.now _ one.new.to last.new.to one.ensures last.ensures

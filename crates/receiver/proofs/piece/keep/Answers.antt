@@ -6,4 +6,4 @@ use Rattle.receiver.proofs.piece.keep.Goals as goal
 pub returns : goal.returns
 returns c =
     let a = c.args in
-    copied a.s.now a.kept.now c.copy_from_slice.new.self a.at c.least-len.result c.requires.0 c.least-len.ensures c.copy_from_slice.ensures.after
+    copied a.s.now a.kept.now c.copy.new.to a.at c.least-len.result c.requires.0 c.least-len.ensures c.copy.ensures

@@ -7,4 +7,4 @@ pub returns-clause-kept_after : goal.returns-clause-kept_after
 returns-clause-kept_after c =
     let a = c.args in
     taken_copy a.held a.kept.now a.piece.now c.requires c.least-len.result c.least-more.result c.least-len.ensures c.least-more.ensures
-    c.copy_from_slice.new.self c.copy_from_slice.ensures.after
+    c.copy.new.to c.copy.ensures
