@@ -5,6 +5,7 @@ ghost use Rattle.std.specs.Prelude.{◌≡◌, ◌++◌, ◌≤◌, length, drop
 ghost use Rattle.cper_descr.specs.Descriptor.{descriptor_size, descriptor_of, moved, normal_descriptor, start_size, start_bytes, descriptor_bytes};
 
 use cper_fields::Severity;
+use le::LittleEndian;
 
 pub const SECTION_DESCRIPTOR_SIZE: usize = 72;
 
@@ -58,22 +59,22 @@ impl CperSectionDescriptor {
         requires { descriptor_size ≤ length s.now }
         ensures { result ≡ descriptor_of s.now }
     {
-        let validation_bits = le::u8_at(s, VALIDATION_BITS_AT);
+        let validation_bits = u8::read_le(s, VALIDATION_BITS_AT);
         let has_fru_id = cper_fields::has_bit(validation_bits as u32, FRU_ID);
         let has_fru_text = cper_fields::has_bit(validation_bits as u32, FRU_TEXT);
         let section_type = cper_fields::bytes16_at(s, SECTION_TYPE_AT);
         let fru_id = cper_fields::present16(has_fru_id, cper_fields::bytes16_at(s, FRU_ID_AT));
-        let section_severity = cper_fields::severity_of(le::u32_at(s, SECTION_SEVERITY_AT));
+        let section_severity = cper_fields::severity_of(u32::read_le(s, SECTION_SEVERITY_AT));
         let fru_text = cper_fields::present20(
             has_fru_text,
             cper_fields::bytes20_at(s, FRU_TEXT_AT),
         );
         CperSectionDescriptor {
-            section_offset: le::u32_at(s, SECTION_OFFSET_AT),
-            section_length: le::u32_at(s, SECTION_LENGTH_AT),
-            revision: le::u16_at(s, REVISION_AT),
+            section_offset: u32::read_le(s, SECTION_OFFSET_AT),
+            section_length: u32::read_le(s, SECTION_LENGTH_AT),
+            revision: u16::read_le(s, REVISION_AT),
             validation_bits,
-            flags: le::u32_at(s, FLAGS_AT),
+            flags: u32::read_le(s, FLAGS_AT),
             section_type,
             has_fru_id,
             fru_id,
@@ -116,11 +117,7 @@ impl CperSectionDescriptor {
             FRU_ID_AT,
             cper_fields::present16(self.has_fru_id, fru_id),
         );
-        le::put_u32(
-            out,
-            SECTION_SEVERITY_AT,
-            cper_fields::severity_number(severity),
-        );
+        cper_fields::severity_number(severity).write_le(out, SECTION_SEVERITY_AT);
         cper_fields::put20(
             out,
             FRU_TEXT_AT,
@@ -134,12 +131,12 @@ fn put_start(out: &mut [u8], offset: u32, size: u32, revision: u16, bits: u8, fl
     requires { descriptor_size ≤ length out.old }
     ensures { out.new ≡ start_bytes offset size revision bits flags ++ drop start_size out.old }
 {
-    le::put_u32(out, SECTION_OFFSET_AT, offset);
-    le::put_u32(out, SECTION_LENGTH_AT, size);
-    le::put_u16(out, REVISION_AT, revision);
-    le::put_u8(out, VALIDATION_BITS_AT, bits);
-    le::put_u8(out, RESERVED_AT, 0);
-    le::put_u32(out, FLAGS_AT, flags);
+    offset.write_le(out, SECTION_OFFSET_AT);
+    size.write_le(out, SECTION_LENGTH_AT);
+    revision.write_le(out, REVISION_AT);
+    bits.write_le(out, VALIDATION_BITS_AT);
+    0u8.write_le(out, RESERVED_AT);
+    flags.write_le(out, FLAGS_AT);
 }
 
 // Writes the normal form of the descriptor that a slice starts with, for a body at an offset: read, moved, normalized and written in one go.
@@ -147,23 +144,19 @@ pub fn rewrite(s: &[u8], out: &mut [u8], offset: u32)
     requires { (descriptor_size ≤ length s.now) × (descriptor_size ≤ length out.old) }
     ensures { out.new ≡ descriptor_bytes (normal_descriptor (moved offset (descriptor_of s.now))) ++ drop descriptor_size out.old }
 {
-    let bits = le::u8_at(s, VALIDATION_BITS_AT);
+    let bits = u8::read_le(s, VALIDATION_BITS_AT);
     put_start(
         out,
         offset,
-        le::u32_at(s, SECTION_LENGTH_AT),
-        le::u16_at(s, REVISION_AT),
+        u32::read_le(s, SECTION_LENGTH_AT),
+        u16::read_le(s, REVISION_AT),
         bits % KNOWN_BITS,
-        le::u32_at(s, FLAGS_AT),
+        u32::read_le(s, FLAGS_AT),
     );
     cper_fields::move16(true, s, out, SECTION_TYPE_AT);
     cper_fields::move16(cper_fields::has_bit(bits as u32, FRU_ID), s, out, FRU_ID_AT);
-    let severity = cper_fields::severity_of(le::u32_at(s, SECTION_SEVERITY_AT));
-    le::put_u32(
-        out,
-        SECTION_SEVERITY_AT,
-        cper_fields::severity_number(severity),
-    );
+    let severity = cper_fields::severity_of(u32::read_le(s, SECTION_SEVERITY_AT));
+    cper_fields::severity_number(severity).write_le(out, SECTION_SEVERITY_AT);
     cper_fields::move20(
         cper_fields::has_bit(bits as u32, FRU_TEXT),
         s,

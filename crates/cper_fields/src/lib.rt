@@ -4,6 +4,8 @@
 ghost use Rattle.std.specs.Prelude.{◌≡◌, ◌+◌, ◌≤◌, ◌<◌, length};
 ghost use Rattle.cper_fields.specs.Fields.{has, number_if, part, over, present, severity_of, severity_number};
 
+use le::LittleEndian;
+
 #[derive(Clone, Copy)]
 pub enum Severity {
     Recoverable,
@@ -136,10 +138,10 @@ pub fn move16(held: bool, s: &[u8], out: &mut [u8], at: usize)
     requires { (at + 16 ≤ length s.now) × (at + 16 ≤ length out.old) }
     ensures { out.new ≡ over out.old at 16 (present held 16 (part s.now at 16)) }
 {
-    let low = long_if(held, le::u64_at(s, at));
-    let high = long_if(held, le::u64_at(s, at + 8));
-    le::put_u64(out, at, low);
-    le::put_u64(out, at + 8, high);
+    let low = long_if(held, u64::read_le(s, at));
+    let high = long_if(held, u64::read_le(s, at + 8));
+    low.write_le(out, at);
+    high.write_le(out, at + 8);
 }
 
 // Moves a field of twenty bytes to the same offset of the output; absent, it is zero there.
@@ -147,6 +149,6 @@ pub fn move20(held: bool, s: &[u8], out: &mut [u8], at: usize)
     requires { (at + 20 ≤ length s.now) × (at + 20 ≤ length out.old) }
     ensures { out.new ≡ over out.old at 20 (present held 20 (part s.now at 20)) }
 {
-    le::put_u32(out, at, number_if(held, le::u32_at(s, at)));
+    number_if(held, u32::read_le(s, at)).write_le(out, at);
     move16(held, s, out, at + 4);
 }

@@ -7,6 +7,7 @@ ghost use Rattle.cper_header.specs.Record.{header_size, signature, is_cper, coun
 ghost use Rattle.cper_header.specs.Header.{timestamp_of, no_timestamp, timestamp_bytes, header_of, normal_header, header_bytes};
 
 use cper_fields::Severity;
+use le::LittleEndian;
 
 pub const RECORD_HEADER_SIZE: usize = 128;
 
@@ -62,7 +63,7 @@ pub fn is_cper(s: &[u8]) -> bool
     if s.len() < RECORD_HEADER_SIZE {
         return false;
     }
-    let end = le::u32_at(s, SIGNATURE_END_AT);
+    let end = u32::read_le(s, SIGNATURE_END_AT);
     (s[0] == SIGNATURE[0])
         & (s[1] == SIGNATURE[1])
         & (s[2] == SIGNATURE[2])
@@ -84,7 +85,7 @@ pub fn section_count(s: &[u8]) -> u16
     requires { header_size ≤ length s.now }
     ensures { result ≡ count_of s.now }
 {
-    le::u16_at(s, SECTION_COUNT_AT)
+    u16::read_le(s, SECTION_COUNT_AT)
 }
 
 #[derive(Clone, Copy)]
@@ -177,11 +178,11 @@ impl CperHeader {
         requires { header_size ≤ length s.now }
         ensures { result ≡ header_of s.now }
     {
-        let validation_bits = le::u32_at(s, VALIDATION_BITS_AT);
+        let validation_bits = u32::read_le(s, VALIDATION_BITS_AT);
         let has_timestamp = cper_fields::has_bit(validation_bits, TIMESTAMP);
         let has_platform_id = cper_fields::has_bit(validation_bits, PLATFORM_ID);
         let has_partition_id = cper_fields::has_bit(validation_bits, PARTITION_ID);
-        let error_severity = cper_fields::severity_of(le::u32_at(s, ERROR_SEVERITY_AT));
+        let error_severity = cper_fields::severity_of(u32::read_le(s, ERROR_SEVERITY_AT));
         let timestamp = Timestamp::from_slice(has_timestamp, s, TIMESTAMP_AT);
         let platform_id = cper_fields::present16(
             has_platform_id,
@@ -194,11 +195,11 @@ impl CperHeader {
         let creator_id = cper_fields::bytes16_at(s, CREATOR_ID_AT);
         let notification_type = cper_fields::bytes16_at(s, NOTIFICATION_TYPE_AT);
         CperHeader {
-            revision: le::u16_at(s, REVISION_AT),
+            revision: u16::read_le(s, REVISION_AT),
             section_count: section_count(s),
             error_severity,
             validation_bits,
-            record_length: le::u32_at(s, RECORD_LENGTH_AT),
+            record_length: u32::read_le(s, RECORD_LENGTH_AT),
             has_timestamp,
             timestamp,
             has_platform_id,
@@ -207,9 +208,9 @@ impl CperHeader {
             partition_id,
             creator_id,
             notification_type,
-            record_id: le::u64_at(s, RECORD_ID_AT),
-            flags: le::u32_at(s, FLAGS_AT),
-            persistence_information: le::u64_at(s, PERSISTENCE_INFORMATION_AT),
+            record_id: u64::read_le(s, RECORD_ID_AT),
+            flags: u32::read_le(s, FLAGS_AT),
+            persistence_information: u64::read_le(s, PERSISTENCE_INFORMATION_AT),
         }
     }
 
@@ -236,16 +237,12 @@ impl CperHeader {
         let creator_id = self.creator_id;
         let notification_type = self.notification_type;
         sign(out);
-        le::put_u16(out, REVISION_AT, self.revision);
-        le::put_u32(out, SIGNATURE_END_AT, SIGNATURE_END);
-        le::put_u16(out, SECTION_COUNT_AT, self.section_count);
-        le::put_u32(
-            out,
-            ERROR_SEVERITY_AT,
-            cper_fields::severity_number(severity),
-        );
-        le::put_u32(out, VALIDATION_BITS_AT, self.validation_bits);
-        le::put_u32(out, RECORD_LENGTH_AT, self.record_length);
+        self.revision.write_le(out, REVISION_AT);
+        SIGNATURE_END.write_le(out, SIGNATURE_END_AT);
+        self.section_count.write_le(out, SECTION_COUNT_AT);
+        cper_fields::severity_number(severity).write_le(out, ERROR_SEVERITY_AT);
+        self.validation_bits.write_le(out, VALIDATION_BITS_AT);
+        self.record_length.write_le(out, RECORD_LENGTH_AT);
         cper_fields::put8(out, TIMESTAMP_AT, timestamp.to_bytes(self.has_timestamp));
         cper_fields::put16(
             out,
@@ -259,14 +256,11 @@ impl CperHeader {
         );
         cper_fields::put16(out, CREATOR_ID_AT, creator_id);
         cper_fields::put16(out, NOTIFICATION_TYPE_AT, notification_type);
-        le::put_u64(out, RECORD_ID_AT, self.record_id);
-        le::put_u32(out, FLAGS_AT, self.flags);
-        le::put_u64(
-            out,
-            PERSISTENCE_INFORMATION_AT,
-            self.persistence_information,
-        );
-        le::put_u64(out, RESERVED_AT, 0);
-        le::put_u32(out, RESERVED_END_AT, 0);
+        self.record_id.write_le(out, RECORD_ID_AT);
+        self.flags.write_le(out, FLAGS_AT);
+        self.persistence_information
+            .write_le(out, PERSISTENCE_INFORMATION_AT);
+        0u64.write_le(out, RESERVED_AT);
+        0u32.write_le(out, RESERVED_END_AT);
     }
 }

@@ -3,6 +3,8 @@ ghost use Rattle.std.specs.Prelude.{◌≡◌, ◌≤◌, ◌<◌};
 ghost use Rattle.cper_sections.specs.Sections.{descriptor_at, told, keeps};
 ghost use Rattle.cper_sections.specs.Steps.{Whole, NextKept};
 
+use le::LittleEndian;
+
 // Where the high half of a number of eight bytes starts.
 const HIGH: u64 = 4294967296;
 
@@ -34,7 +36,7 @@ fn section_told(cper: &[u8], index: usize) -> Section
     requires { Whole cper.now index }
     ensures { result ≡ told cper.now index }
 {
-    let both = le::u64_at(cper, descriptor_at(index) + cper_descr::SECTION_OFFSET_AT);
+    let both = u64::read_le(cper, descriptor_at(index) + cper_descr::SECTION_OFFSET_AT);
     Section {
         index,
         offset: (both % HIGH) as u32,

@@ -11,15 +11,16 @@ ghost use Rattle.header.specs.Header.{numbers_of};
 use crate::{HeaderType, Stamp, Status};
 use header_judge::Layout;
 use header_judge::origin::server_die;
+use le::LittleEndian;
 
 fn stamp_of(s: &[u8]) -> Stamp
     requires { 24 ≤ length s.now }
     ensures { result ≡ stamp (le 8 s.now 8) (le 4 s.now 16) (le 4 s.now 20) }
 {
     Stamp {
-        timestamp: le::u64_at(s, 8),
-        agent_version: le::u32_at(s, 16),
-        reason: le::u32_at(s, 20),
+        timestamp: u64::read_le(s, 8),
+        agent_version: u32::read_le(s, 16),
+        reason: u32::read_le(s, 20),
     }
 }
 
@@ -29,9 +30,9 @@ fn legacy_stamp_of(s: &[u8]) -> Stamp
     ensures { result ≡ stamp (le 8 s.now 8) (le 4 s.now 20) (le 4 s.now 4) }
 {
     Stamp {
-        timestamp: le::u64_at(s, 8),
-        agent_version: le::u32_at(s, 20),
-        reason: le::u32_at(s, 4),
+        timestamp: u64::read_le(s, 8),
+        agent_version: u32::read_le(s, 20),
+        reason: u32::read_le(s, 4),
     }
 }
 
@@ -39,7 +40,7 @@ fn status_at(s: &[u8], at: usize) -> Status
     requires { at + 4 ≤ length s.now }
     ensures { result ≡ status_of (le 4 s.now at) }
 {
-    let word = le::u32_at(s, at);
+    let word = u32::read_le(s, at);
     Status {
         completion_status: word % 2147483648,
         collection_complete: word / 2147483648 % 2 == 1,
@@ -69,8 +70,8 @@ fn type4(s: &[u8]) -> HeaderType
 {
     HeaderType::Type4 {
         stamp: stamp_of(s),
-        whoami: le::u32_at(s, 24),
-        misc: le::u32_at(s, 28),
+        whoami: u32::read_le(s, 24),
+        misc: u32::read_le(s, 28),
     }
 }
 
@@ -81,7 +82,7 @@ fn type5(s: &[u8]) -> HeaderType
     HeaderType::Type5 {
         stamp: stamp_of(s),
         status: status_at(s, 24),
-        error_status: le::u32_at(s, 28),
+        error_status: u32::read_le(s, 28),
     }
 }
 
@@ -89,11 +90,11 @@ fn type6(s: &[u8]) -> HeaderType
     requires { 28 ≤ length s.now }
     ensures { result ≡ type_from Six (numbers_of s.now Six) }
 {
-    let half = le::u16_at(s, 26);
+    let half = u16::read_le(s, 26);
     HeaderType::Type6 {
         stamp: stamp_of(s),
-        die_id: le::u8_at(s, 24),
-        socket_id: le::u8_at(s, 25),
+        die_id: u8::read_le(s, 24),
+        socket_id: u8::read_le(s, 25),
         completion_status_size: half % 128,
         collection_complete: half / 32768 % 2 == 1,
     }
@@ -105,8 +106,8 @@ fn type0_legacy_server(s: &[u8]) -> HeaderType
 {
     HeaderType::Type0LegacyServer {
         stamp: legacy_stamp_of(s),
-        die_id: server_die(le::u32_at(s, 0) % 256),
-        socket_id: le::u8_at(s, 24),
+        die_id: server_die(u32::read_le(s, 0) % 256),
+        socket_id: u8::read_le(s, 24),
         status: status_at(s, 28),
     }
 }
@@ -148,7 +149,7 @@ fn words_of(s: &[u8], count: usize) -> [u32; 127]
     let mut words = [0u32; 127];
     let mut i: usize = 0;
     while i < count {
-        words[i] = le::u32_at(s, 28 + 4 * i);
+        words[i] = u32::read_le(s, 28 + 4 * i);
         i = i + 1;
     }
     words

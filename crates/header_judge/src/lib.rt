@@ -9,6 +9,7 @@ ghost use Rattle.header_judge.specs.Head.{legacy, record_size, extended_size, si
 pub mod origin;
 pub mod version;
 
+use le::LittleEndian;
 use origin::origin_of;
 use version::{Ending, NO_WORD, ending_of, word_of};
 
@@ -90,13 +91,13 @@ pub fn sizes_of(s: &[u8], flags: u32) -> RecordSize
 {
     if is_legacy(flags) {
         return RecordSize {
-            record_size: le::u16_at(s, 16),
+            record_size: u16::read_le(s, 16),
             extended_record_size: 0,
         };
     }
     RecordSize {
-        record_size: le::u16_at(s, 4),
-        extended_record_size: le::u16_at(s, 6),
+        record_size: u16::read_le(s, 4),
+        extended_record_size: u16::read_le(s, 6),
     }
 }
 
@@ -141,7 +142,7 @@ pub fn count_of(s: &[u8]) -> usize
     if s.len() < 28 {
         return 0;
     }
-    (le::u16_at(s, 26) % 128) as usize
+    (u16::read_le(s, 26) % 128) as usize
 }
 
 // The layout and the header size that a header type chooses.

@@ -3,6 +3,7 @@ ghost use Rattle.std.specs.Prelude.{◌≡◌, ◌<◌};
 ghost use Rattle.header_judge.specs.Head.{lacking, size_of, server_die, origin_of};
 
 use crate::{Layout, layout_of};
+use le::LittleEndian;
 
 // A header that names no socket has socket 0, and one that names no die NO_DIE.
 #[derive(Clone, Copy)]
@@ -32,11 +33,11 @@ pub fn origin_of(s: &[u8], word: u32, flags: u32) -> Origin
     let layout = layout_of(word, flags);
     match layout {
         Layout::Six => Origin {
-            socket: le::u8_at(s, 25) as u32,
-            die: le::u8_at(s, 24) as u32,
+            socket: u8::read_le(s, 25) as u32,
+            die: u8::read_le(s, 24) as u32,
         },
         Layout::LegacyServer => Origin {
-            socket: le::u8_at(s, 24) as u32,
+            socket: u8::read_le(s, 24) as u32,
             die: server_die(word % 256) as u32,
         },
         _ => Origin {

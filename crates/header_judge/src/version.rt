@@ -3,6 +3,7 @@ ghost use Rattle.std.specs.Prelude.{◌≡◌, ◌≤◌};
 ghost use Rattle.header_judge.specs.Version.{word_of, ending_of, ending_number, version_of, start_of, InBits, bit, word_from};
 
 use answers::stops;
+use le::LittleEndian;
 
 // Version of a Crash Log record.
 #[derive(Clone, Copy)]
@@ -43,7 +44,7 @@ pub fn word_of(s: &[u8]) -> u32
     if s.len() < 4 {
         return NO_WORD;
     }
-    let word = le::u32_at(s, 0);
+    let word = u32::read_le(s, 0);
     if word == END_MARK {
         return NO_WORD;
     }
@@ -57,7 +58,7 @@ pub fn ending_of(s: &[u8]) -> Ending
     if s.len() < 4 {
         return Ending::FewBytes;
     }
-    if le::u32_at(s, 0) == END_MARK {
+    if u32::read_le(s, 0) == END_MARK {
         return Ending::DeadbeefWord;
     }
     Ending::ZeroWord

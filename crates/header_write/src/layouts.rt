@@ -12,6 +12,7 @@ ghost use Rattle.header_write.specs.Steps.{RoomForHeader, written};
 use header::{Stamp, Status};
 use header_judge::RecordSize;
 use header_judge::version::bit_of;
+use le::LittleEndian;
 
 // A status and above it complete, in one word.
 fn status_word(status: Status) -> u32
@@ -34,9 +35,9 @@ pub fn put_sized(out: &mut [u8], word: u32, size: RecordSize)
     requires { RoomForHeader Type0 out.old }
     ensures { out.new ≡ written word size Type0 [] out.old }
 {
-    le::put_u32(out, 0, word);
-    le::put_u16(out, 4, size.record_size);
-    le::put_u16(out, 6, size.extended_record_size);
+    word.write_le(out, 0);
+    size.record_size.write_le(out, 4);
+    size.extended_record_size.write_le(out, 6);
 }
 
 pub fn put_type2(out: &mut [u8], word: u32, size: RecordSize, stamp: Stamp)
@@ -44,9 +45,9 @@ pub fn put_type2(out: &mut [u8], word: u32, size: RecordSize, stamp: Stamp)
     ensures { out.new ≡ written word size (Type2 stamp) [] out.old }
 {
     put_sized(out, word, size);
-    le::put_u64(out, 8, stamp.timestamp);
-    le::put_u32(out, 16, stamp.agent_version);
-    le::put_u32(out, 20, stamp.reason);
+    stamp.timestamp.write_le(out, 8);
+    stamp.agent_version.write_le(out, 16);
+    stamp.reason.write_le(out, 20);
 }
 
 pub fn put_type3(out: &mut [u8], word: u32, size: RecordSize, stamp: Stamp, status: Status)
@@ -54,7 +55,7 @@ pub fn put_type3(out: &mut [u8], word: u32, size: RecordSize, stamp: Stamp, stat
     ensures { out.new ≡ written word size (Type3 stamp status) [] out.old }
 {
     put_type2(out, word, size, stamp);
-    le::put_u32(out, 24, status_word(status));
+    status_word(status).write_le(out, 24);
 }
 
 pub fn put_type4(out: &mut [u8], word: u32, size: RecordSize, stamp: Stamp, whoami: u32, misc: u32)
@@ -62,8 +63,8 @@ pub fn put_type4(out: &mut [u8], word: u32, size: RecordSize, stamp: Stamp, whoa
     ensures { out.new ≡ written word size (Type4 stamp whoami misc) [] out.old }
 {
     put_type2(out, word, size, stamp);
-    le::put_u32(out, 24, whoami);
-    le::put_u32(out, 28, misc);
+    whoami.write_le(out, 24);
+    misc.write_le(out, 28);
 }
 
 pub fn put_type5(
@@ -78,7 +79,7 @@ pub fn put_type5(
     ensures { out.new ≡ written word size (Type5 stamp status error_status) [] out.old }
 {
     put_type3(out, word, size, stamp, status);
-    le::put_u32(out, 28, error_status);
+    error_status.write_le(out, 28);
 }
 
 // The first status words.
@@ -88,7 +89,7 @@ fn put_words(out: &mut [u8], words: [u32; 127], count: usize)
 {
     let mut i: usize = 0;
     while i < count {
-        le::put_u32(out, 28 + 4 * i, words[i]);
+        words[i].write_le(out, 28 + 4 * i);
         i = i + 1;
     }
 }
@@ -107,9 +108,9 @@ fn put_counted(
     ensures { out.new ≡ write_all (table_of Six 0) (stamped_numbers word size stamp (die_id ∷ socket_id ∷ half ∷ [])) out.old }
 {
     put_type2(out, word, size, stamp);
-    le::put_u8(out, 24, die_id);
-    le::put_u8(out, 25, socket_id);
-    le::put_u16(out, 26, half);
+    die_id.write_le(out, 24);
+    socket_id.write_le(out, 25);
+    half.write_le(out, 26);
 }
 
 pub fn put_type6(
@@ -136,12 +137,12 @@ fn put_legacy(out: &mut [u8], word: u32, size: RecordSize, stamp: Stamp)
     requires { 24 ≤ length out.old }
     ensures { out.new ≡ write_all (legacy_stamped []) (legacy_numbers word size stamp []) out.old }
 {
-    le::put_u32(out, 0, word);
-    le::put_u32(out, 4, stamp.reason);
-    le::put_u64(out, 8, stamp.timestamp);
-    le::put_u16(out, 16, size.record_size);
-    le::put_u16(out, 18, 0);
-    le::put_u32(out, 20, stamp.agent_version);
+    word.write_le(out, 0);
+    stamp.reason.write_le(out, 4);
+    stamp.timestamp.write_le(out, 8);
+    size.record_size.write_le(out, 16);
+    0u16.write_le(out, 18);
+    stamp.agent_version.write_le(out, 20);
 }
 
 // The three unread bytes of a legacy server header.
@@ -149,8 +150,8 @@ fn put_unread(out: &mut [u8])
     requires { 28 ≤ length out.old }
     ensures { out.new ≡ put 3 out.old 25 0 }
 {
-    le::put_u8(out, 25, 0);
-    le::put_u16(out, 26, 0);
+    0u8.write_le(out, 25);
+    0u16.write_le(out, 26);
 }
 
 // The die of a legacy server stands in its revision.
@@ -167,9 +168,9 @@ pub fn put_type0_legacy_server(
     ensures { out.new ≡ written word size (Type0LegacyServer stamp die_id socket_id status) [] out.old }
 {
     put_legacy(out, word, size, stamp);
-    le::put_u8(out, 24, socket_id);
+    socket_id.write_le(out, 24);
     put_unread(out);
-    le::put_u32(out, 28, status_word(status));
+    status_word(status).write_le(out, 28);
 }
 
 pub fn put_type0_legacy_gpu(
@@ -183,6 +184,6 @@ pub fn put_type0_legacy_gpu(
     ensures { out.new ≡ written word size (Type0LegacyGpu stamp status) [] out.old }
 {
     put_legacy(out, word, size, stamp);
-    le::put_u32(out, 24, 0);
-    le::put_u32(out, 28, status_word(status));
+    0u32.write_le(out, 24);
+    status_word(status).write_le(out, 28);
 }

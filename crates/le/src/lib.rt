@@ -2,76 +2,91 @@
 // A wider number is two halves of the next narrower width, so one law on halves proves each width.
 #![tactic(auto)]
 
-ghost use Rattle.std.specs.Prelude.{◌≡◌, ◌+◌, ◌≤◌, length};
+ghost use Rattle.std.specs.Prelude.{◌≡◌, ℕ, ◌+◌, ◌≤◌, length};
 ghost use Rattle.le.specs.Le.{le, put};
 
-pub fn u8_at(s: &[u8], at: usize) -> u8
-    requires { at + 1 ≤ length s.now }
-    ensures { result ≡ le 1 s.now at }
-{
-    s[at]
+// A number of so many bytes: where it stands in a slice, and what writing it there leaves.
+pub trait LittleEndian: Copy {
+    ghost width: { ℕ };
+
+    ghost value: { Self → ℕ };
+
+    fn read_le(s: &[u8], at: usize) -> Self
+        requires { at + width ≤ length s.now }
+        ensures { value result ≡ le width s.now at };
+
+    fn write_le(self, out: &mut [u8], at: usize)
+        requires { at + width ≤ length out.old }
+        ensures { out.new ≡ put width out.old at (value self) };
 }
 
-pub fn u16_at(s: &[u8], at: usize) -> u16
-    requires { at + 2 ≤ length s.now }
-    ensures { result ≡ le 2 s.now at }
-{
-    let low = u8_at(s, at) as u16;
-    let high = u8_at(s, at + 1) as u16;
-    low + high * 256
+impl LittleEndian for u8 {
+    ghost width = { 1 };
+
+    ghost value = { λ x. x };
+
+    fn read_le(s: &[u8], at: usize) -> u8 {
+        s[at]
+    }
+
+    fn write_le(self, out: &mut [u8], at: usize) {
+        out[at] = self;
+    }
 }
 
-pub fn u32_at(s: &[u8], at: usize) -> u32
-    requires { at + 4 ≤ length s.now }
-    ensures { result ≡ le 4 s.now at }
-{
-    let low = u16_at(s, at) as u32;
-    let high = u16_at(s, at + 2) as u32;
-    low + high * 65536
+impl LittleEndian for u16 {
+    ghost width = { 2 };
+
+    ghost value = { λ x. x };
+
+    fn read_le(s: &[u8], at: usize) -> u16 {
+        let low = u8::read_le(s, at) as u16;
+        let high = u8::read_le(s, at + 1) as u16;
+        low + high * 256
+    }
+
+    fn write_le(self, out: &mut [u8], at: usize) {
+        let low = (self % 256) as u8;
+        let high = (self / 256) as u8;
+        low.write_le(out, at);
+        high.write_le(out, at + 1);
+    }
 }
 
-pub fn u64_at(s: &[u8], at: usize) -> u64
-    requires { at + 8 ≤ length s.now }
-    ensures { result ≡ le 8 s.now at }
-{
-    let low = u32_at(s, at) as u64;
-    let high = u32_at(s, at + 4) as u64;
-    low + high * 4294967296
+impl LittleEndian for u32 {
+    ghost width = { 4 };
+
+    ghost value = { λ x. x };
+
+    fn read_le(s: &[u8], at: usize) -> u32 {
+        let low = u16::read_le(s, at) as u32;
+        let high = u16::read_le(s, at + 2) as u32;
+        low + high * 65536
+    }
+
+    fn write_le(self, out: &mut [u8], at: usize) {
+        let low = (self % 65536) as u16;
+        let high = (self / 65536) as u16;
+        low.write_le(out, at);
+        high.write_le(out, at + 2);
+    }
 }
 
-pub fn put_u8(out: &mut [u8], at: usize, x: u8)
-    requires { at + 1 ≤ length out.old }
-    ensures { out.new ≡ put 1 out.old at x }
-{
-    out[at] = x;
-}
+impl LittleEndian for u64 {
+    ghost width = { 8 };
 
-pub fn put_u16(out: &mut [u8], at: usize, x: u16)
-    requires { at + 2 ≤ length out.old }
-    ensures { out.new ≡ put 2 out.old at x }
-{
-    let low = (x % 256) as u8;
-    let high = (x / 256) as u8;
-    put_u8(out, at, low);
-    put_u8(out, at + 1, high);
-}
+    ghost value = { λ x. x };
 
-pub fn put_u32(out: &mut [u8], at: usize, x: u32)
-    requires { at + 4 ≤ length out.old }
-    ensures { out.new ≡ put 4 out.old at x }
-{
-    let low = (x % 65536) as u16;
-    let high = (x / 65536) as u16;
-    put_u16(out, at, low);
-    put_u16(out, at + 2, high);
-}
+    fn read_le(s: &[u8], at: usize) -> u64 {
+        let low = u32::read_le(s, at) as u64;
+        let high = u32::read_le(s, at + 4) as u64;
+        low + high * 4294967296
+    }
 
-pub fn put_u64(out: &mut [u8], at: usize, x: u64)
-    requires { at + 8 ≤ length out.old }
-    ensures { out.new ≡ put 8 out.old at x }
-{
-    let low = (x % 4294967296) as u32;
-    let high = (x / 4294967296) as u32;
-    put_u32(out, at, low);
-    put_u32(out, at + 4, high);
+    fn write_le(self, out: &mut [u8], at: usize) {
+        let low = (self % 4294967296) as u32;
+        let high = (self / 4294967296) as u32;
+        low.write_le(out, at);
+        high.write_le(out, at + 4);
+    }
 }

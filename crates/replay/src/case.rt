@@ -16,6 +16,8 @@
 ghost use Rattle.std.specs.Prelude.{◌≤◌, length};
 ghost use Rattle.io.specs.Counts.{IsPrefixLen};
 
+use le::LittleEndian;
+
 pub const MOST_CASE: usize = 262144;
 
 pub const MOST_RULES: usize = 256;
@@ -50,7 +52,7 @@ pub fn u32_in(bytes: &[u8], at: usize) -> u32 {
     if bytes.len() - 4 < at {
         return 0;
     }
-    le::u32_at(bytes, at)
+    u32::read_le(bytes, at)
 }
 
 pub fn u64_in(bytes: &[u8], at: usize) -> u64 {
@@ -60,7 +62,7 @@ pub fn u64_in(bytes: &[u8], at: usize) -> u64 {
     if bytes.len() - 8 < at {
         return 0;
     }
-    le::u64_at(bytes, at)
+    u64::read_le(bytes, at)
 }
 
 // A case with so many bytes of identifier.

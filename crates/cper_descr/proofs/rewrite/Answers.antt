@@ -21,16 +21,16 @@ returns c =
     -- a part of the descriptor's bytes lies in the input
     let inside : (n : ℕ) → T (leb n descriptor_size) → n ≤ length s = λ n h. within n descriptor_size (length s) h c.requires.0 in
     let start : Laid descriptor_size 16 c.put_start.new.out =
-    laid_start c.args.out.now c.requires.1 c.args.offset c.put_start.ensures c.u32_at.ensures c.u16_at.ensures
-    (ap (λ (b : ℕ). b % 4) c.u8_at-bits.ensures ∙ known_bits (le 1 s 10)) c.u32_at-2.ensures in
+    laid_start c.args.out.now c.requires.1 c.args.offset c.put_start.ensures c.read_le.ensures c.read_le-2.ensures
+    (ap (λ (b : ℕ). b % 4) c.read_le-bits.ensures ∙ known_bits (le 1 s 10)) c.read_le-3.ensures in
     let type : Laid descriptor_size 32 c.move16.new.out = laid_bytes start 16 (c.move16.ensures, length_part s 16 16 (inside 32 tt)) refl in
     let fru : Laid descriptor_size 48 c.move16-2.new.out =
     laid_moved type 16 s _ (inside 48 tt) c.move16-2.ensures
-    (c.has_bit.ensures ∙ ap (λ (b : ℕ). has b fru_id_bit) c.u8_at-bits.ensures) in
-    let severity : Laid descriptor_size 52 c.put_u32.new.out =
-    laid_number fru 4 tt c.put_u32.ensures
-    (c.severity_number.ensures ∙ ap severity_number (c.severity_of-severity.ensures ∙ ap severity_of c.u32_at-3.ensures)) in
+    (c.has_bit.ensures ∙ ap (λ (b : ℕ). has b fru_id_bit) c.read_le-bits.ensures) in
+    let severity : Laid descriptor_size 52 c.write_le.new.out =
+    laid_number fru 4 tt c.write_le.ensures
+    (c.severity_number.ensures ∙ ap severity_number (c.severity_of-severity.ensures ∙ ap severity_of c.read_le-4.ensures)) in
     let text : Laid descriptor_size 72 c.move20.new.out =
     laid_moved severity 20 s _ (inside 72 tt) c.move20.ensures
-    (c.has_bit-2.ensures ∙ ap (λ (b : ℕ). has b fru_text_bit) c.u8_at-bits.ensures) in
+    (c.has_bit-2.ensures ∙ ap (λ (b : ℕ). has b fru_text_bit) c.read_le-bits.ensures) in
     text.is

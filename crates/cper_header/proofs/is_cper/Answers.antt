@@ -41,4 +41,4 @@ pub returns-then-s-lt-RECORD_HEADER_SIZE : goal.returns-then-s-lt-RECORD_HEADER_
 returns-then-s-lt-RECORD_HEADER_SIZE c = short c.args.s.now (omega arith)
 
 pub returns : goal.returns
-returns c = whole c.args.s.now c.u32_at-end.result (omega arith) c.u32_at-end.ensures
+returns c = whole c.args.s.now c.read_le-end.result (omega arith) c.read_le-end.ensures

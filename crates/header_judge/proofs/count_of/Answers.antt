@@ -12,4 +12,4 @@ returns-then-s-lt28 c =
 pub returns : goal.returns
 returns c =
     let args = c.args in
-    (count_there args.s.now (omega arith) c.u16_at.result c.u16_at.ensures, omega arith)
+    (count_there args.s.now (omega arith) c.read_le.result c.read_le.ensures, omega arith)

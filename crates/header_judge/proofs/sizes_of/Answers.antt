@@ -5,8 +5,8 @@ use native.Mathlib.Omega.{arith}
 use Rattle.header_judge.proofs.Sizes.{legacy_sizes, plain_sizes, legacy_end, plain_end}
 use Rattle.header_judge.proofs.sizes_of.Goals as goal
 
-pub u16_at-requires : goal.u16_at-requires
-u16_at-requires c =
+pub read_le-requires : goal.read_le-requires
+read_le-requires c =
     let args = c.args in
     omega (arith, legacy_end args.flags (sym c.is_legacy.ensures ∙ c.if-is_legacy.true))
 
@@ -15,15 +15,15 @@ returns-then-is_legacy c =
     let args = c.args in
     let is-legacy = c.is_legacy in
     let e = legacy_sizes args.s.now args.flags (sym is-legacy.ensures ∙ c.if-is_legacy.true) in
-    (c.u16_at.ensures ∙ e.0, e.1)
+    (c.read_le.ensures ∙ e.0, e.1)
 
-pub u16_at-requires-2 : goal.u16_at-requires-2
-u16_at-requires-2 c =
+pub read_le-requires-2 : goal.read_le-requires-2
+read_le-requires-2 c =
     let args = c.args in
     omega (arith, plain_end args.flags (sym c.is_legacy.ensures ∙ c.if-is_legacy.false))
 
-pub u16_at-requires-3 : goal.u16_at-requires-3
-u16_at-requires-3 c =
+pub read_le-requires-3 : goal.read_le-requires-3
+read_le-requires-3 c =
     let args = c.args in
     let is-legacy = c.is_legacy in
     omega (arith, plain_end args.flags (sym is-legacy.ensures ∙ c.if-is_legacy.false))
@@ -34,4 +34,4 @@ returns c =
     let is-legacy = c.is_legacy in
     let if1 = c.if-is_legacy in
     let e = plain_sizes args.s.now args.flags (sym is-legacy.ensures ∙ if1.false) in
-    (c.u16_at-2.ensures ∙ e.0, c.u16_at-3.ensures ∙ e.1)
+    (c.read_le-2.ensures ∙ e.0, c.read_le-3.ensures ∙ e.1)

@@ -7,18 +7,18 @@ pub returns : goal.returns
 unfolding descriptor_of
 returns c =
     rw (
-      c.u32_at-2.ensures,
-      c.u32_at-3.ensures,
-      c.u16_at.ensures,
-      c.u32_at-4.ensures,
+      c.read_le-2.ensures,
+      c.read_le-3.ensures,
+      c.read_le-4.ensures,
+      c.read_le-5.ensures,
       c.bytes16_at-section_type.ensures,
       c.present16-fru_id.ensures,
       c.severity_of-section_severity.ensures,
-      c.u32_at.ensures,
+      c.read_le.ensures,
       c.present20-fru_text.ensures,
       c.bytes16_at.ensures,
       c.bytes20_at.ensures,
       c.has_bit-has_fru_id.ensures,
       c.has_bit-has_fru_text.ensures,
-      c.u8_at-validation_bits.ensures,
+      c.read_le-validation_bits.ensures,
     )

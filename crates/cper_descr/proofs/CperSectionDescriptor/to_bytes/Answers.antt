@@ -13,6 +13,6 @@ returns c =
     laid_start c.args.out.now c.requires c.args.self.section_offset c.put_start.ensures refl refl refl refl in
     let type : Laid descriptor_size 32 c.put16.new.out = laid_bytes start 16 c.put16.ensures refl in
     let fru : Laid descriptor_size 48 c.put16-2.new.out = laid_bytes type 16 c.put16-2.ensures c.present16.ensures in
-    let severity : Laid descriptor_size 52 c.put_u32.new.out = laid_number fru 4 tt c.put_u32.ensures c.severity_number.ensures in
+    let severity : Laid descriptor_size 52 c.write_le.new.out = laid_number fru 4 tt c.write_le.ensures c.severity_number.ensures in
     let text : Laid descriptor_size 72 c.put20.new.out = laid_bytes severity 20 c.put20.ensures c.present20.ensures in
     text.is

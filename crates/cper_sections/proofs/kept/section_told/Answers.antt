@@ -22,4 +22,4 @@ halves cper bytes i at both stands e =
 pub returns : goal.returns
 returns c =
     halves c.args.cper.now (λ k. (c.type_inv.cper k).fits) c.args.index c.descriptor_at.result
-    c.u64_at-both.result c.descriptor_at.ensures c.u64_at-both.ensures
+    c.read_le-both.result c.descriptor_at.ensures c.read_le-both.ensures

@@ -17,7 +17,7 @@ pub loop-i-preserved : goal.loop-i-preserved
 loop-i-preserved c =
     let args = c.args in
     let l = c.loop-i in
-    (omega arith, words_more args.s.now l.words l.i c.u32_at.result (omega arith) l.invariant.1 c.u32_at.ensures)
+    (omega arith, words_more args.s.now l.words l.i c.read_le.result (omega arith) l.invariant.1 c.read_le.ensures)
 
 pub returns : goal.returns
 returns c =

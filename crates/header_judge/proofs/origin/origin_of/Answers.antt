@@ -30,30 +30,30 @@ neither LegacyGpu f g bs word = refl
 neither Bad f g bs word = refl
 
 -- the bytes that a layout has are there
-pub u8_at-requires : goal.u8_at-requires
-u8_at-requires c =
+pub read_le-requires : goal.read_le-requires
+read_le-requires c =
     let a = c.args in
     omega (arith, size_there a.s.now a.word a.flags c.in-Six.ensures c.requires)
 
-pub u8_at-requires-in-Six : goal.u8_at-requires-in-Six
-u8_at-requires-in-Six c =
+pub read_le-requires-in-Six : goal.read_le-requires-in-Six
+read_le-requires-in-Six c =
     let a = c.args in
     omega (arith, size_there a.s.now a.word a.flags c.in-Six.ensures c.requires)
 
-pub u8_at-requires-in-LegacyServer : goal.u8_at-requires-in-LegacyServer
-u8_at-requires-in-LegacyServer c =
+pub read_le-requires-in-LegacyServer : goal.read_le-requires-in-LegacyServer
+read_le-requires-in-LegacyServer c =
     let a = c.args in
     omega (arith, size_there a.s.now a.word a.flags c.in-LegacyServer.ensures c.requires)
 
 pub returns-in-Six : goal.returns-in-Six
 returns-in-Six c =
     let a = c.args in
-    names a.s.now a.word a.flags c.in-Six.ensures (rw (c.u8_at.ensures, c.u8_at-in-Six.ensures))
+    names a.s.now a.word a.flags c.in-Six.ensures (rw (c.read_le.ensures, c.read_le-in-Six.ensures))
 
 pub returns-in-LegacyServer : goal.returns-in-LegacyServer
 returns-in-LegacyServer c =
     let a = c.args in
-    names a.s.now a.word a.flags c.in-LegacyServer.ensures (rw (c.u8_at-in-LegacyServer.ensures, c.server_die.ensures))
+    names a.s.now a.word a.flags c.in-LegacyServer.ensures (rw (c.read_le-in-LegacyServer.ensures, c.server_die.ensures))
 
 pub returns-in_default : goal.returns-in_default
 returns-in_default c =

@@ -9,12 +9,12 @@ returns-then-s-lt4 c =
     let args = c.args in
     few_bytes_lem args.s.now (omega arith)
 
-pub returns-then-u32_at-eq-END_MARK : goal.returns-then-u32_at-eq-END_MARK
-returns-then-u32_at-eq-END_MARK c =
+pub returns-then-read_le-eq-END_MARK : goal.returns-then-read_le-eq-END_MARK
+returns-then-read_le-eq-END_MARK c =
     let args = c.args in
-    deadbeef_word_lem args.s.now (omega arith) c.u32_at.result c.u32_at.ensures c.if-u32_at-eq-END_MARK.true
+    deadbeef_word_lem args.s.now (omega arith) c.read_le.result c.read_le.ensures c.if-read_le-eq-END_MARK.true
 
 pub returns : goal.returns
 returns c =
     let args = c.args in
-    zero_word_lem args.s.now (omega arith) c.u32_at.result c.u32_at.ensures c.if-u32_at-eq-END_MARK.false
+    zero_word_lem args.s.now (omega arith) c.read_le.result c.read_le.ensures c.if-read_le-eq-END_MARK.false

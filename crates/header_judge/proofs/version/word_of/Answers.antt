@@ -12,9 +12,9 @@ returns-then-s-lt4 c =
 pub returns-then-word : goal.returns-then-word
 returns-then-word c =
     let args = c.args in
-    word_marked args.s.now (omega arith) c.u32_at-word.result c.u32_at-word.ensures c.if-word.true
+    word_marked args.s.now (omega arith) c.read_le-word.result c.read_le-word.ensures c.if-word.true
 
 pub returns : goal.returns
 returns c =
     let args = c.args in
-    word_there args.s.now (omega arith) c.u32_at-word.result c.u32_at-word.ensures c.if-word.false
+    word_there args.s.now (omega arith) c.read_le-word.result c.read_le-word.ensures c.if-word.false

@@ -7,4 +7,4 @@ pub returns : goal.returns
 returns c =
     let half = c in
     let byte = half in
-    written_halves 1 2 byte.args.out.now 25 0 byte.put_u8.ensures half.put_u16.ensures
+    written_halves 1 2 byte.args.out.now 25 0 byte.write_le.ensures half.write_le-2.ensures

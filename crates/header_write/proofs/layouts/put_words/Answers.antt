@@ -23,4 +23,4 @@ pub loop-i-preserved : goal.loop-i-preserved
 loop-i-preserved c =
     let a = c.args in
     let l = c.loop-i in
-    (omega arith, c.put_u32.auto.out ∙ l.invariant.1, c.put_u32.ensures ∙ turn a.out.now l.out a.words l.i l.invariant.2)
+    (omega arith, c.write_le.auto.out ∙ l.invariant.1, c.write_le.ensures ∙ turn a.out.now l.out a.words l.i l.invariant.2)
