@@ -1,22 +1,19 @@
--- What the Rust offers on a header (header.rs); an absent value is a case of its own.
-use Rattle.std.specs.Prelude.{ℕ, ◌+◌, ◌*◌, cond, ltb}
+-- What the Rust offers on a header (header.rs).
+use Rattle.std.specs.Prelude.{ℕ, ◌+◌, ◌*◌, cond, Option, Some, None, ltb}
 use Rattle.header_judge.specs.Head.{unit, size_for}
 use Rattle.header_judge.specs.declared.Layout.{Layout}
 use Rattle.header_judge.specs.declared.Layout.TheVariants.{Zero, One, Two, Three, Four, Five, Six, LegacyServer, LegacyGpu}
 use Rattle.header.specs.declared.HeaderType.{HeaderType}
 use Rattle.header.specs.declared.HeaderType.TheVariants.{Type0, Type1, Type2, Type3, Type4, Type5, Type6, Type0LegacyServer, Type0LegacyGpu}
 use Rattle.header.specs.declared.Header.{Header}
-use Rattle.header.specs.declared.access.Die.{Die}
-use Rattle.header.specs.declared.access.Extended.{Extended}
 
 -- the bytes that a record with these flags declares
 abbrev pub record_bytes : Header → ℕ → ℕ
 record_bytes h flags = (h.size.record_size + h.size.extended_record_size) * unit flags
 
--- where its extended record starts
-abbrev pub extended_offset : Header → ℕ → Extended
-extended_offset h flags =
-    cond (ltb 0 h.size.extended_record_size) (Extended.At (h.size.record_size * unit flags)) Extended.Absent
+-- where its extended record starts, if there is one
+abbrev pub extended_offset : Header → ℕ → Option ℕ
+extended_offset h flags = cond (ltb 0 h.size.extended_record_size) (Some (h.size.record_size * unit flags)) None
 
 -- the layout of a header's fields
 abbrev pub layout_in : HeaderType → Layout
@@ -59,13 +56,13 @@ socket_of (Type0LegacyServer p d k s) = k
 socket_of (Type0LegacyGpu p s) = 0
 
 -- the die, if the header names one
-abbrev pub die_of : HeaderType → Die
-die_of Type0 = Die.Absent
-die_of Type1 = Die.Absent
-die_of (Type2 p) = Die.Absent
-die_of (Type3 p s) = Die.Absent
-die_of (Type4 p w m) = Die.Absent
-die_of (Type5 p s e) = Die.Absent
-die_of (Type6 p d k n c) = Die.Id d
-die_of (Type0LegacyServer p d k s) = Die.Id d
-die_of (Type0LegacyGpu p s) = Die.Absent
+abbrev pub die_of : HeaderType → Option ℕ
+die_of Type0 = None
+die_of Type1 = None
+die_of (Type2 p) = None
+die_of (Type3 p s) = None
+die_of (Type4 p w m) = None
+die_of (Type5 p s e) = None
+die_of (Type6 p d k n c) = Some d
+die_of (Type0LegacyServer p d k s) = Some d
+die_of (Type0LegacyGpu p s) = None

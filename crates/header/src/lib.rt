@@ -14,7 +14,7 @@ use header_judge::version::{Ending, Version, ending_number};
 use header_judge::{Head, RecordSize};
 
 // The fields that most layouts share.
-#[derive(Clone, Copy)]
+#[derive(Clone, Copy, Debug, PartialEq, Eq)]
 pub struct Stamp {
     pub timestamp: u64,
     pub agent_version: u32,
@@ -22,14 +22,14 @@ pub struct Stamp {
 }
 
 // A status of 31 bits, and above it whether the collection is complete.
-#[derive(Clone, Copy)]
+#[derive(Clone, Copy, Debug, PartialEq, Eq)]
 pub struct Status {
     pub completion_status: u32,
     pub collection_complete: bool,
 }
 
 // The fields that a layout has beside version and sizes. The status words of Type6 stand beside this enum.
-#[derive(Clone, Copy)]
+#[derive(Clone, Copy, Debug, PartialEq, Eq)]
 pub enum HeaderType {
     Type0,
     Type1,
@@ -70,7 +70,7 @@ pub enum HeaderType {
 }
 
 // Header of a Crash Log record. The status words are those of Type6, and 0 past its count.
-#[derive(Clone, Copy)]
+#[derive(Clone, Copy, Debug, PartialEq, Eq)]
 pub struct Header {
     pub version: Version,
     pub size: RecordSize,
@@ -79,7 +79,7 @@ pub struct Header {
 }
 
 // What a decode answers.
-#[derive(Clone, Copy)]
+#[derive(Clone, Copy, Debug, PartialEq, Eq)]
 pub enum Answer {
     Done,
     Ended(Ending),
@@ -89,7 +89,7 @@ pub enum Answer {
 }
 
 // The answer, and with Done the record's version word, its flags, the bytes that it declares and its header's size; else zeros.
-#[derive(Clone, Copy)]
+#[derive(Clone, Copy, Debug, PartialEq, Eq)]
 pub struct Judged {
     pub answer: Answer,
     pub word: u32,
@@ -99,7 +99,7 @@ pub struct Judged {
 }
 
 // What was judged, with the whole header; zeros where there is none.
-#[derive(Clone, Copy)]
+#[derive(Clone, Copy, Debug, PartialEq, Eq)]
 pub struct Decoded {
     pub answer: Answer,
     pub header: Header,

@@ -1,12 +1,10 @@
 -- The version word of a record header (document 01, 'Record header'): its fields, and the word that they make.
-use Rattle.std.specs.Prelude.{ℕ, ◌+◌, ◌*◌, ◌/◌, ◌%◌, ◌<◌, Bool, true, false, cond, List, eqb, ltb, length}
+use Rattle.std.specs.Prelude.{ℕ, ◌+◌, ◌*◌, ◌/◌, ◌%◌, ◌<◌, Bool, true, false, cond, List, Result, Ok, Err, eqb, ltb, length}
 use Rattle.answers.specs.Stops as stops
 use Rattle.le.specs.Le.{le}
 use Rattle.header_judge.specs.declared.version.Version.{Version}
 use Rattle.header_judge.specs.declared.version.Ending.{Ending}
 use Rattle.header_judge.specs.declared.version.Ending.TheVariants.{ZeroWord, DeadbeefWord, FewBytes}
-use Rattle.header_judge.specs.declared.version.Start.{Start}
-use Rattle.header_judge.specs.declared.version.Start.TheVariants.{Ended, Versioned}
 
 -- what stands for a word where there is none
 abbrev pub no_word : ℕ
@@ -68,8 +66,8 @@ version_of word =
     }
 
 -- the fields, or how the records end
-abbrev pub start_of : List ℕ → Start
-start_of bs = cond (eqb (word_of bs) no_word) (Ended (ending_of bs)) (Versioned (version_of (word_of bs)))
+abbrev pub start_of : List ℕ → Result Version Ending
+start_of bs = cond (eqb (word_of bs) no_word) (Err (ending_of bs)) (Ok (version_of (word_of bs)))
 
 -- ---- the word of some fields
 

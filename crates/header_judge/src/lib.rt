@@ -14,7 +14,7 @@ use origin::origin_of;
 use version::{Ending, NO_WORD, ending_of, word_of};
 
 // How the fields of a header lie.
-#[derive(Clone, Copy)]
+#[derive(Clone, Copy, Debug, PartialEq, Eq)]
 pub enum Layout {
     Zero,
     One,
@@ -28,14 +28,14 @@ pub enum Layout {
     Bad,
 }
 
-#[derive(Clone, Copy)]
+#[derive(Clone, Copy, Debug, PartialEq, Eq)]
 pub struct Shape {
     pub layout: Layout,
     pub size: usize,
 }
 
 // Size of a Crash Log record, as its header has it.
-#[derive(Clone, Copy)]
+#[derive(Clone, Copy, Debug, PartialEq, Eq)]
 pub struct RecordSize {
     pub record_size: u16,
     pub extended_record_size: u16,
@@ -43,7 +43,7 @@ pub struct RecordSize {
 
 // What a header says of its record, as far as a span row needs it: the version word, its flags, the bytes declared, the header's size,
 // and the socket and the die that it names.
-#[derive(Clone, Copy)]
+#[derive(Clone, Copy, Debug, PartialEq, Eq)]
 pub struct Summary {
     pub word: u32,
     pub flags: u32,
@@ -54,7 +54,7 @@ pub struct Summary {
 }
 
 // What one try finds.
-#[derive(Clone, Copy)]
+#[derive(Clone, Copy, Debug, PartialEq, Eq)]
 pub enum Head {
     Ended(Ending),
     BadHeader,
@@ -113,6 +113,7 @@ pub fn in_bytes(units: usize, flags: u32) -> usize
 }
 
 // The bytes that the record declares, by its size fields and their unit.
+#[tactic(auto, unfolding(crate::specs::Head::declared_of))]
 fn declared_under(s: &[u8], flags: u32) -> usize
     requires { sizes_end flags ≤ length s.now }
     ensures { (result ≡ declared_of s.now flags) × (result ≤ 524280) }
@@ -183,10 +184,7 @@ pub fn shape_of(s: &[u8], header_type: u32) -> Shape
             layout: Layout::Bad,
             size: NO_SIZE,
         },
-        _ => Shape {
-            layout: Layout::Bad,
-            size: NO_SIZE,
-        },
+        _ => unreachable!(),
     }
 }
 
@@ -212,6 +210,7 @@ fn sized(s: &[u8], size: usize) -> usize
 }
 
 // The header's size, or NO_SIZE, or LACKING.
+#[tactic(auto, using(crate::proofs::Sizes::measured), unfolding(crate::specs::Head::size_of))]
 pub fn size_of(s: &[u8], word: u32, flags: u32) -> usize
     ensures value { result ≡ size_of s.now word flags }
     ensures measured { Measured s.now flags result }
@@ -227,6 +226,7 @@ pub fn size_of(s: &[u8], word: u32, flags: u32) -> usize
 }
 
 // The bytes that the record declares, where its header's size is known: 0 where no record is.
+#[tactic(auto, unfolding(crate::specs::Head::head_with, crate::specs::Head::declared_by))]
 pub fn declared_in(s: &[u8], word: u32, flags: u32, size: usize) -> usize
     requires { (size ≡ size_of s.now word flags) × Measured s.now flags size }
     ensures { (result ≡ declared_by (head_with s.now word flags)) × (result ≤ 524280) }
@@ -247,16 +247,17 @@ pub fn summary_of(s: &[u8], word: u32, flags: u32, declared: usize, size: usize)
 {
     let origin = origin_of(s, word, flags);
     Summary {
-        word: word,
-        flags: flags,
-        declared: declared,
-        size: size,
+        word,
+        flags,
+        declared,
+        size,
         socket: origin.socket,
         die: origin.die,
     }
 }
 
 // What one try finds, where the header's word and flags are known.
+#[tactic(auto, using(crate::proofs::Sizes::bad_from_seven), unfolding(crate::specs::Head::head_with))]
 pub fn judge_with(s: &[u8], word: u32, flags: u32) -> Head
     ensures value { result ≡ head_with s.now word flags }
     ensures head_bounds { HeadBounds result }
@@ -276,6 +277,7 @@ pub fn judge_with(s: &[u8], word: u32, flags: u32) -> Head
 }
 
 // What one try finds.
+#[tactic(auto, unfolding(crate::specs::Head::head_of))]
 pub fn judge(s: &[u8], rules: &[u32]) -> Head
     ensures value { result ≡ head_of rules.now s.now }
     ensures head_bounds { HeadBounds result }

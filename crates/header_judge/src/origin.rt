@@ -6,12 +6,13 @@ use crate::{Layout, layout_of};
 use le::LittleEndian;
 
 // A header that names no socket has socket 0, and one that names no die NO_DIE.
-#[derive(Clone, Copy)]
+#[derive(Clone, Copy, Debug, PartialEq, Eq)]
 pub struct Origin {
     pub socket: u32,
     pub die: u32,
 }
 
+// The C interface has this number in a row's `die`, since 0 is a die.
 pub const NO_DIE: u32 = 4294967295;
 
 // The die that a legacy server's revision encodes.
@@ -26,6 +27,7 @@ pub fn server_die(revision: u32) -> u8
 }
 
 // By the header's layout; its bytes are there.
+#[tactic(auto, unfolding(crate::specs::Head::origin_of))]
 pub fn origin_of(s: &[u8], word: u32, flags: u32) -> Origin
     requires { lacking < size_of s.now word flags }
     ensures { result ≡ origin_of s.now word flags }

@@ -6,7 +6,7 @@ use answers::stops;
 use le::LittleEndian;
 
 // Version of a Crash Log record.
-#[derive(Clone, Copy)]
+#[derive(Clone, Copy, Debug, PartialEq, Eq)]
 pub struct Version {
     pub revision: u32,
     pub header_type: u16,
@@ -17,18 +17,11 @@ pub struct Version {
 }
 
 // How the records end, where no record starts.
-#[derive(Clone, Copy)]
+#[derive(Clone, Copy, Debug, PartialEq, Eq)]
 pub enum Ending {
     ZeroWord,
     DeadbeefWord,
     FewBytes,
-}
-
-// The start of a record: its version, or how the records end.
-#[derive(Clone, Copy)]
-pub enum Start {
-    Ended(Ending),
-    Versioned(Version),
 }
 
 // What stands for a word where the records have ended.
@@ -38,6 +31,7 @@ pub const NO_WORD: u32 = 0;
 pub const END_MARK: u32 = 0xdeadbeef;
 
 // The version word, or NO_WORD.
+#[tactic(auto, unfolding(crate::specs::Version::word_of))]
 pub fn word_of(s: &[u8]) -> u32
     ensures { result ≡ word_of s.now }
 {
@@ -52,6 +46,7 @@ pub fn word_of(s: &[u8]) -> u32
 }
 
 // How the records end at a place that has no word.
+#[tactic(auto, unfolding(crate::specs::Version::ending_of))]
 pub fn ending_of(s: &[u8]) -> Ending
     ensures { result ≡ ending_of s.now }
 {
@@ -89,14 +84,15 @@ impl Version {
         }
     }
 
-    pub fn from_slice(s: &[u8]) -> Start
+    // The version at the start of a record, or how the records end.
+    pub fn from_slice(s: &[u8]) -> Result<Version, Ending>
         ensures { result ≡ start_of s.now }
     {
         let word = word_of(s);
         if word == NO_WORD {
-            return Start::Ended(ending_of(s));
+            return Err(ending_of(s));
         }
-        Start::Versioned(Version::from_u32(word))
+        Ok(Version::from_u32(word))
     }
 
     pub fn as_u32(self) -> u32

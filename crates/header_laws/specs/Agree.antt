@@ -1,5 +1,5 @@
 -- What a decode answers where one try was made.
-use Rattle.std.specs.Prelude.{ℕ, List}
+use Rattle.std.specs.Prelude.{ℕ, List, Option, Some, None}
 use Rattle.header_judge.specs.Head.{no_die}
 use Rattle.header_judge.specs.declared.origin.Origin.{Origin}
 use Rattle.header_judge.specs.declared.Summary.{Summary}
@@ -7,7 +7,6 @@ use Rattle.header_judge.specs.declared.Head.{Head}
 use Rattle.header_judge.specs.declared.Head.TheVariants.{Record}
 use Rattle.header.specs.Header.{header_of}
 use Rattle.header.specs.Access.{socket_of, die_of}
-use Rattle.header.specs.declared.access.Die.{Die}
 use Rattle.header.specs.declared.HeaderType.{HeaderType}
 use Rattle.header.specs.declared.Answer.{Answer}
 use Rattle.header.specs.declared.Answer.TheVariants.{Done, Ended, BadHeader, BadType}
@@ -26,9 +25,9 @@ decoded_record bs s =
     record { answer = Done; header = header_of bs s.word s.flags; flags = s.flags; declared = s.declared; header_size = s.size }
 
 -- the die that a header names as a number
-abbrev pub die_number : Die → ℕ
-die_number (Die.Id d) = d
-die_number Die.Absent = no_die
+abbrev pub die_number : Option ℕ → ℕ
+die_number (Some d) = d
+die_number None = no_die
 
 -- the socket and the die that the fields of a header name
 abbrev pub origin_named : HeaderType → Origin

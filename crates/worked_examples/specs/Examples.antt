@@ -1,13 +1,12 @@
 -- The worked examples P1 to P12 of document 01, 'Checked examples', with each ending and each reason of document 02's C-12, each clause of its C-14
 -- and the socket and die of each layout of its C-17, as one table of rows.
-use Rattle.std.specs.Prelude.{ℕ, zero, suc, ◌+◌, ◌*◌, ◌/◌, ◌%◌, Bool, true, false, List, [], ◌∷◌, ◌++◌, length, take, replicate}
+use Rattle.std.specs.Prelude.{ℕ, zero, suc, ◌+◌, ◌*◌, ◌/◌, ◌%◌, Bool, true, false, List, [], ◌∷◌, ◌++◌, Option, Some, None, length, take, replicate}
 use Rattle.answers.specs.Numbers.{ended}
 use Rattle.header_judge.specs.Head.{no_die}
 use Rattle.header.specs.Access.{die_of}
 use Rattle.header.specs.Header.{number_of, ending_told, decoded_of}
 use Rattle.header.specs.declared.HeaderType.{HeaderType}
 use Rattle.header.specs.declared.HeaderType.TheVariants.{Type0, Type1, Type2, Type3, Type4, Type5, Type6, Type0LegacyServer, Type0LegacyGpu}
-use Rattle.header.specs.declared.access.Die.{Die}
 use Rattle.region_rows.specs.declared.Span.{Span}
 use Rattle.region_rows.specs.Rows.{width, top, span_at, flat}
 use Rattle.region_try.specs.Stops.{stop_number}
@@ -189,9 +188,9 @@ abbrev bit : Bool → ℕ
 bit true = 1
 bit false = 0
 
-abbrev die_number : Die → List ℕ
-die_number (Die.Id d) = d ∷ []
-die_number Die.Absent = []
+abbrev die_number : Option ℕ → List ℕ
+die_number (Some d) = d ∷ []
+die_number None = []
 
 -- count and complete of a type 6 header
 abbrev half_in : HeaderType → List ℕ
