@@ -1,5 +1,5 @@
 -- What a header decode answers (document 01, 'Record header' and 'Numbers the caller gets').
-use Rattle.std.specs.Prelude.{ℕ, cond, List, [], eqb}
+use Rattle.std.specs.Prelude.{ℕ, cond, List, Result, Ok, Err}
 use Rattle.answers.specs.Numbers.{done, bad_rules, bad_header, bad_type, ended}
 use Rattle.rules.specs.Rules.{valid_of}
 use Rattle.layout.specs.Fields.{read_all}
@@ -9,35 +9,36 @@ use Rattle.header_judge.specs.declared.RecordSize.{RecordSize}
 use Rattle.header_judge.specs.declared.Layout.{Layout}
 use Rattle.header_judge.specs.declared.Head.{Head}
 use Rattle.header_judge.specs.declared.Head.TheVariants.{Record}
-use Rattle.header.specs.Layouts.{table_of, type_from, statuses_from, padded}
-use Rattle.header.specs.declared.HeaderType.TheVariants.{Type0}
+use Rattle.header.specs.Layouts.{table_of, type_from, statuses_from}
 use Rattle.header.specs.declared.Header.{Header}
-use Rattle.header.specs.declared.Answer.{Answer}
-use Rattle.header.specs.declared.Answer.TheVariants.{Done, Ended, BadRules, BadHeader, BadType}
+use Rattle.header.specs.declared.Refusal.{Refusal}
+use Rattle.header.specs.declared.Refusal.TheVariants.{Ended, BadRules, BadHeader, BadType}
 use Rattle.header.specs.declared.Judged.{Judged}
 use Rattle.header.specs.declared.Decoded.{Decoded}
 
--- ---- answers
+-- ---- refusals
 
--- document 01's number of each answer
-abbrev pub number_of : Answer → ℕ
-number_of Done = done
+-- document 01's number of each
+abbrev pub number_of : Refusal → ℕ
 number_of (Ended e) = ended
 number_of BadRules = bad_rules
 number_of BadHeader = bad_header
 number_of (BadType t) = bad_type
 
+-- and of whatever is refused or not
+abbrev pub answer_of : {A : Type 0} → Result A Refusal → ℕ
+answer_of (Ok x) = done
+answer_of (Err refusal) = number_of refusal
+
 -- the type that comes with it
-abbrev pub type_told : Answer → ℕ
-type_told Done = 0
+abbrev pub type_told : Refusal → ℕ
 type_told (Ended e) = 0
 type_told BadRules = 0
 type_told BadHeader = 0
 type_told (BadType t) = t
 
 -- the number of the ending that comes with it
-abbrev pub ending_told : Answer → ℕ
-ending_told Done = 0
+abbrev pub ending_told : Refusal → ℕ
 ending_told (Ended e) = ending_number e
 ending_told BadRules = 0
 ending_told BadHeader = 0
@@ -45,20 +46,16 @@ ending_told (BadType t) = 0
 
 -- ---- a header judged
 
-abbrev pub refusal : Answer → Judged
-refusal a = record { answer = a; word = 0; flags = 0; declared = 0; header_size = 0 }
-
 -- by what one try found
-unfoldable pub judged_from : Head → Judged
-judged_from (Head.Ended e) = refusal (Ended e)
-judged_from Head.BadHeader = refusal BadHeader
-judged_from (Head.BadType t) = refusal (BadType t)
-judged_from (Record s) =
-    record { answer = Done; word = s.word; flags = s.flags; declared = s.declared; header_size = s.size }
+unfoldable pub judged_from : Head → Result Judged Refusal
+judged_from (Head.Ended e) = Err (Ended e)
+judged_from Head.BadHeader = Err BadHeader
+judged_from (Head.BadType t) = Err (BadType t)
+judged_from (Record s) = Ok (record { word = s.word; flags = s.flags; declared = s.declared; header_size = s.size })
 
 -- bad rules come first
-unfoldable pub judged_of : List ℕ → List ℕ → Judged
-judged_of rules bs = cond (valid_of rules) (judged_from (head_of rules bs)) (refusal BadRules)
+unfoldable pub judged_of : List ℕ → List ℕ → Result Judged Refusal
+judged_of rules bs = cond (valid_of rules) (judged_from (head_of rules bs)) (Err BadRules)
 
 -- ---- and decoded
 
@@ -79,24 +76,11 @@ header_of bs word flags =
       completion_statuses = statuses_from (numbers_of bs (layout_of word flags));
     }
 
--- every number 0, every yes/no no
-abbrev pub zero_header : Header
-zero_header =
-    record {
-      version = version_of 0;
-      size = record { record_size = 0; extended_record_size = 0 };
-      header_type = Type0;
-      completion_statuses = padded [];
-    }
-
--- the header that was judged
-abbrev pub header_from : List ℕ → Judged → Header
-header_from bs j = cond (eqb (number_of j.answer) done) (header_of bs j.word j.flags) zero_header
-
 -- what was judged, with the whole header
-abbrev pub decoded_from : List ℕ → Judged → Decoded
-decoded_from bs j =
-    record { answer = j.answer; header = header_from bs j; flags = j.flags; declared = j.declared; header_size = j.header_size }
+abbrev pub decoded_from : List ℕ → Result Judged Refusal → Result Decoded Refusal
+decoded_from bs (Ok j) =
+    Ok (record { header = header_of bs j.word j.flags; flags = j.flags; declared = j.declared; header_size = j.header_size })
+decoded_from bs (Err refusal) = Err refusal
 
-unfoldable pub decoded_of : List ℕ → List ℕ → Decoded
+unfoldable pub decoded_of : List ℕ → List ℕ → Result Decoded Refusal
 decoded_of rules bs = decoded_from bs (judged_of rules bs)

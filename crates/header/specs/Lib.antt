@@ -1,4 +1,3 @@
 pub mod Layouts
 pub mod Header
 pub mod Access
-pub mod Steps

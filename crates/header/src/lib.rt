@@ -1,10 +1,9 @@
 // Record headers, the port of header.rs: a header decoded from a slice, and what the Rust offers on one.
 #![tactic(auto)]
 
-ghost use Rattle.std.specs.Prelude.{◌≡◌, ◌<◌};
+ghost use Rattle.std.specs.Prelude.{◌≡◌, ◌<◌, IfOk};
 ghost use Rattle.header_judge.specs.Head.{lacking, size_of};
-ghost use Rattle.header.specs.Header.{number_of, type_told, ending_told, refusal, judged_of, header_of, zero_header, header_from, decoded_of};
-ghost use Rattle.header.specs.Steps.{Held};
+ghost use Rattle.header.specs.Header.{number_of, type_told, ending_told, judged_of, header_of, decoded_of};
 
 pub mod access;
 pub mod fields;
@@ -78,105 +77,87 @@ pub struct Header {
     pub completion_statuses: [u32; 127],
 }
 
-// What a decode answers.
+// Why there is no header.
 #[derive(Clone, Copy, Debug, PartialEq, Eq)]
-pub enum Answer {
-    Done,
+pub enum Refusal {
     Ended(Ending),
     BadRules,
     BadHeader,
     BadType(u32),
 }
 
-// The answer, and with Done the record's version word, its flags, the bytes that it declares and its header's size; else zeros.
+// A record's version word, its flags, the bytes that it declares and its header's size.
 #[derive(Clone, Copy, Debug, PartialEq, Eq)]
 pub struct Judged {
-    pub answer: Answer,
     pub word: u32,
     pub flags: u32,
     pub declared: usize,
     pub header_size: usize,
 }
 
-// What was judged, with the whole header; zeros where there is none.
+// What was judged, with the whole header.
 #[derive(Clone, Copy, Debug, PartialEq, Eq)]
 pub struct Decoded {
-    pub answer: Answer,
     pub header: Header,
     pub flags: u32,
     pub declared: usize,
     pub header_size: usize,
 }
 
-// The number of an answer.
-pub fn number_of(answer: Answer) -> u32
-    ensures { result ≡ number_of answer }
-{
-    match answer {
-        Answer::Done => answers::DONE,
-        Answer::Ended(_) => answers::ENDED,
-        Answer::BadRules => answers::BAD_RULES,
-        Answer::BadHeader => answers::BAD_HEADER,
-        Answer::BadType(_) => answers::BAD_TYPE,
+impl From<Refusal> for u32 {
+    ghost from_gives = { λ refusal number. number ≡ number_of refusal };
+
+    fn from(refusal: Refusal) -> u32 {
+        match refusal {
+            Refusal::Ended(_) => answers::ENDED,
+            Refusal::BadRules => answers::BAD_RULES,
+            Refusal::BadHeader => answers::BAD_HEADER,
+            Refusal::BadType(_) => answers::BAD_TYPE,
+        }
     }
 }
 
-// The type that a bad type tells; else 0.
-pub fn type_told(answer: Answer) -> u32
-    ensures { result ≡ type_told answer }
-{
-    match answer {
-        Answer::Done => 0,
-        Answer::Ended(_) => 0,
-        Answer::BadRules => 0,
-        Answer::BadHeader => 0,
-        Answer::BadType(header_type) => header_type,
+impl Refusal {
+    // The type that a bad type tells; else 0.
+    pub fn type_told(self) -> u32
+        ensures { result ≡ type_told self }
+    {
+        match self {
+            Refusal::BadType(header_type) => header_type,
+            _ => 0,
+        }
     }
-}
 
-// The number of the ending that comes with Ended; else 0.
-pub fn ending_told(answer: Answer) -> u32
-    ensures { result ≡ ending_told answer }
-{
-    match answer {
-        Answer::Done => 0,
-        Answer::Ended(ending) => ending_number(ending),
-        Answer::BadRules => 0,
-        Answer::BadHeader => 0,
-        Answer::BadType(_) => 0,
-    }
-}
-
-fn refused(answer: Answer) -> Judged
-    ensures { result ≡ refusal answer }
-{
-    Judged {
-        answer: answer,
-        word: 0,
-        flags: 0,
-        declared: 0,
-        header_size: 0,
+    // The number of the ending, where the records have ended; else 0.
+    pub fn ending_told(self) -> u32
+        ensures { result ≡ ending_told self }
+    {
+        match self {
+            Refusal::Ended(ending) => ending_number(ending),
+            _ => 0,
+        }
     }
 }
 
 // The header at the start of a slice of any length, under a rule table: all but its fields.
-pub fn judge(s: &[u8], rules: &[u32]) -> Judged
-    ensures { result ≡ judged_of rules.now s.now }
+#[tactic(auto, using(header_judge::proofs::Heads::record_told), unfolding(crate::specs::Header::judged_of, crate::specs::Header::judged_from))]
+pub fn judge(s: &[u8], rules: &[u32]) -> Result<Judged, Refusal>
+    ensures value { result ≡ judged_of rules.now s.now }
+    ensures held { IfOk result (λ j. lacking < size_of s.now j.word j.flags) }
 {
     if !rules::valid(rules) {
-        return refused(Answer::BadRules);
+        return Err(Refusal::BadRules);
     }
     match header_judge::judge(s, rules) {
-        Head::Ended(ending) => refused(Answer::Ended(ending)),
-        Head::BadHeader => refused(Answer::BadHeader),
-        Head::BadType(header_type) => refused(Answer::BadType(header_type)),
-        Head::Record(summary) => Judged {
-            answer: Answer::Done,
+        Head::Ended(ending) => Err(Refusal::Ended(ending)),
+        Head::BadHeader => Err(Refusal::BadHeader),
+        Head::BadType(header_type) => Err(Refusal::BadType(header_type)),
+        Head::Record(summary) => Ok(Judged {
             word: summary.word,
             flags: summary.flags,
             declared: summary.declared,
             header_size: summary.size,
-        },
+        }),
     }
 }
 
@@ -198,43 +179,16 @@ pub fn header_of(s: &[u8], word: u32, flags: u32) -> Header
     }
 }
 
-fn zero_header() -> Header
-    ensures { result ≡ zero_header }
-{
-    Header {
-        version: Version::from_u32(0),
-        size: RecordSize {
-            record_size: 0,
-            extended_record_size: 0,
-        },
-        header_type: HeaderType::Type0,
-        completion_statuses: [0u32; 127],
-    }
-}
-
-// The header that was judged, or zeros.
-fn judged_header(s: &[u8], judged: Judged) -> Header
-    requires { Held s.now judged }
-    ensures { result ≡ header_from s.now judged }
-{
-    let answer = judged.answer;
-    if number_of(answer) == answers::DONE {
-        return header_of(s, judged.word, judged.flags);
-    }
-    zero_header()
-}
-
 // The header at the start of a slice of any length, under a rule table.
-pub fn decode(s: &[u8], rules: &[u32]) -> Decoded
+#[tactic(auto, unfolding(crate::specs::Header::decoded_of))]
+pub fn decode(s: &[u8], rules: &[u32]) -> Result<Decoded, Refusal>
     ensures { result ≡ decoded_of rules.now s.now }
 {
-    let judged = judge(s, rules);
-    let answer = judged.answer;
-    Decoded {
-        answer,
-        header: judged_header(s, judged),
+    let judged = judge(s, rules)?;
+    Ok(Decoded {
+        header: header_of(s, judged.word, judged.flags),
         flags: judged.flags,
         declared: judged.declared,
         header_size: judged.header_size,
-    }
+    })
 }

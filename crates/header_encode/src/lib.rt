@@ -3,7 +3,7 @@
 
 ghost use Rattle.std.specs.Prelude.{◌≡◌};
 ghost use Rattle.header_write.specs.Fit.{status_fits, fields_fit};
-ghost use Rattle.header_encode.specs.Encode.{version_fits, layout_number, encodable, answered, encoded_of, number_of};
+ghost use Rattle.header_encode.specs.Encode.{version_fits, encodable, encoded_of, number_of};
 ghost use Rattle.header.specs.Access.{layout_in};
 
 use header::{Header, HeaderType, Status};
@@ -17,31 +17,23 @@ const STATUS_END: u32 = 2147483648;
 
 const MOST_STATUSES: u16 = 127;
 
-// What encode answers.
-#[derive(Clone, Copy)]
-pub enum Answer {
-    Done,
+// Why a header is not encoded.
+#[derive(Clone, Copy, Debug, PartialEq, Eq)]
+pub enum Refusal {
     BadRules,
     BadField,
     OutputShort,
 }
 
-// The answer, and with Done the bytes written; else 0.
-#[derive(Clone, Copy)]
-pub struct Encoded {
-    pub answer: Answer,
-    pub length: usize,
-}
+impl From<Refusal> for u32 {
+    ghost from_gives = { λ refusal number. number ≡ number_of refusal };
 
-// The number of an answer.
-pub fn number_of(answer: Answer) -> u32
-    ensures { result ≡ number_of answer }
-{
-    match answer {
-        Answer::Done => answers::DONE,
-        Answer::BadRules => answers::BAD_RULES,
-        Answer::BadField => answers::BAD_FIELD,
-        Answer::OutputShort => answers::OUTPUT_SHORT,
+    fn from(refusal: Refusal) -> u32 {
+        match refusal {
+            Refusal::BadRules => answers::BAD_RULES,
+            Refusal::BadField => answers::BAD_FIELD,
+            Refusal::OutputShort => answers::OUTPUT_SHORT,
+        }
     }
 }
 
@@ -51,24 +43,6 @@ fn version_fits(version: Version) -> bool
 {
     (version.revision < 256)
         & ((version.header_type < 16) & ((version.product_id < 4096) & (version.record_type < 64)))
-}
-
-// The layouts by number: the header type, then the two legacy layouts.
-pub fn layout_number(layout: Layout) -> u32
-    ensures { result ≡ layout_number layout }
-{
-    match layout {
-        Layout::Zero => 0,
-        Layout::One => 1,
-        Layout::Two => 2,
-        Layout::Three => 3,
-        Layout::Four => 4,
-        Layout::Five => 5,
-        Layout::Six => 6,
-        Layout::LegacyServer => 7,
-        Layout::LegacyGpu => 8,
-        Layout::Bad => 9,
-    }
 }
 
 // The layout of a header's fields.
@@ -117,55 +91,41 @@ fn fields_fit(header_type: HeaderType, revision: u32, extended: u16) -> bool
 }
 
 // Whether a header can be encoded under a rule table.
+#[tactic(auto, unfolding(crate::specs::Encode::encodable))]
 fn can_encode(header: Header, rules: &[u32]) -> bool
     ensures { result ≡ encodable rules.now header }
 {
-    let version = header.version;
-    let size = header.size;
-    let header_type = header.header_type;
-    if !version_fits(version) {
+    if !version_fits(header.version) {
         return false;
     }
-    let word = version.as_u32();
-    if word == NO_WORD {
-        return false;
-    }
-    if word == END_MARK {
+    let word = header.version.as_u32();
+    if word == NO_WORD || word == END_MARK {
         return false;
     }
     let chosen = header_judge::layout_of(word, rules::flags(rules, word));
-    if layout_number(chosen) != layout_number(layout_in(header_type)) {
-        return false;
-    }
-    fields_fit(header_type, version.revision, size.extended_record_size)
+    chosen == layout_in(header.header_type)
+        && fields_fit(
+            header.header_type,
+            header.version.revision,
+            header.size.extended_record_size,
+        )
 }
 
-fn refused(answer: Answer) -> Encoded
-    ensures { result ≡ answered answer 0 }
-{
-    Encoded {
-        answer: answer,
-        length: 0,
-    }
-}
-
-// A header's bytes into an output that decode reads back; on a refusal the output is untouched.
-pub fn encode(header: Header, rules: &[u32], out: &mut [u8]) -> Encoded
+// A header's bytes into an output that decode reads back, and how many they are; on a refusal the output is untouched.
+#[tactic(auto, unfolding(crate::specs::Encode::encoded_of))]
+pub fn encode(header: Header, rules: &[u32], out: &mut [u8]) -> Result<usize, Refusal>
     ensures { (out.new, result) ≡ encoded_of rules.now header out.old }
 {
     if !rules::valid(rules) {
-        return refused(Answer::BadRules);
+        return Err(Refusal::BadRules);
     }
     if !can_encode(header, rules) {
-        return refused(Answer::BadField);
+        return Err(Refusal::BadField);
     }
     let size = header.header_size();
     if out.len() < size {
-        return refused(Answer::OutputShort);
+        return Err(Refusal::OutputShort);
     }
     put_header(out, header);
-    Encoded {
-        answer: Answer::Done,
-        length: size,
-    }
+    Ok(size)
 }

@@ -1,11 +1,13 @@
 -- One try and a decode judge a header alike; the size and the declared bytes that a decode tells are those of its header.
 -- From what is known where a decode is done; a refusal's answer tells the refusal. Assumes nothing.
 use mathlib.Core.Path.{◌≡◌, refl, sym, ap, ◌∙◌}
-use mathlib.Core.Bool.{Bool, true, cond}
+use mathlib.Core.Bool.{true}
 use mathlib.Core.List.{List}
 use mathlib.Core.Logic.{◌↔◌}
 use Prim.Native.Nat.{ℕ, ◌≤◌, ◌<◌}
 use lib.ListN.{length}
+use native.Mathlib.Omega.{arith}
+use Rattle.std.specs.Prelude.{Some, Ok, Err}
 use Rattle.le.specs.Le.{le}
 use Rattle.rules.specs.Rules.{valid_of, flags_of}
 use Rattle.layout.specs.Fields.{Field, read_all}
@@ -18,29 +20,36 @@ use Rattle.header_judge.specs.declared.Summary.{Summary}
 use Rattle.header_judge.specs.declared.Head.{Head}
 use Rattle.header_judge.specs.declared.Head.TheVariants.{Record}
 use Rattle.header.specs.Layouts.{table_of, type_from}
-use Rattle.header.specs.Header.{number_of, refusal, judged_from, judged_of, numbers_of, header_of, decoded_of}
+use Rattle.header.specs.Header.{answer_of, judged_from, decoded_from, numbers_of, header_of, decoded_of}
 use Rattle.header.specs.Access.{count_in, header_size, record_bytes}
-use Rattle.header.specs.declared.Answer.{Answer}
+use Rattle.header.specs.declared.Refusal.{Refusal}
 use Rattle.header.specs.declared.Decoded.{Decoded}
-use Rattle.header.specs.declared.Answer.TheVariants.{Done, Ended, BadRules, BadHeader, BadType}
-use Rattle.header_laws.specs.Agree.{answer_for, decoded_record, origin_named, decoded_summary}
+use Rattle.header.specs.declared.Refusal.TheVariants.{Ended, BadRules, BadHeader, BadType}
+use Rattle.header_laws.specs.Agree.{refusal_for, decoded_record, origin_named, decoded_summary}
 use Rattle.header_laws.proofs.Layouts.{layout_from, shape_read}
-use Rattle.header_laws.proofs.Done.{answer_of_head, decoded_of_record, done_known}
+use Rattle.header_laws.proofs.Done.{decoded_from_lem, decoded_of_record, done_known, known_decoded}
 
--- the case of one try that an answer tells, where it tells a refusal
-refused_as : Answer → Head
-refused_as Done = Head.BadHeader
-refused_as (Ended e) = Head.Ended e
-refused_as BadRules = Head.BadHeader
-refused_as BadHeader = Head.BadHeader
-refused_as (BadType t) = Head.BadType t
+-- what one try found, by the refusal for it
+head_for : Refusal → Head
+head_for (Ended e) = Head.Ended e
+head_for BadRules = Head.BadHeader
+head_for BadHeader = Head.BadHeader
+head_for (BadType t) = Head.BadType t
 
-refused_as_lem : (h : Head) → (answer_for h ≡ Done → ⊥) → refused_as (answer_for h) ≡ h
-unfolding refused_as
-refused_as_lem (Head.Ended e) f = refl
-refused_as_lem Head.BadHeader f = refl
-refused_as_lem (Head.BadType t) f = refl
-refused_as_lem (Record s) f = absurd (f refl)
+head_for_lem : (h : Head) {r : Refusal} → refusal_for h ≡ Some r → head_for r ≡ h
+unfolding head_for
+head_for_lem (Head.Ended e) {r} f = let is : r ≡ Ended e = cc in rw is
+head_for_lem Head.BadHeader {r} f = let is : r ≡ BadHeader = cc in rw is
+head_for_lem (Head.BadType t) {r} f = let is : r ≡ BadType t = cc in rw is
+head_for_lem (Record s) f = absurd (let o : ◌≡◌ {A = ℕ} 0 1 = cc in omega arith)
+
+-- a decode is refused with the refusal for what one try found
+refused : (bs : List ℕ) (h : Head) {r : Refusal} → (refusal_for h ≡ Some r) ↔ (decoded_from bs (judged_from h) ≡ Err r)
+unfolding judged_from
+refused bs (Head.Ended e) = (λ f. cc, λ f. cc)
+refused bs Head.BadHeader = (λ f. cc, λ f. cc)
+refused bs (Head.BadType t) = (λ f. cc, λ f. cc)
+refused bs (Record s) = (λ f. absurd (let o : ◌≡◌ {A = ℕ} 0 1 = cc in omega arith), λ f. absurd (let o : ◌≡◌ {A = ℕ} 0 1 = cc in omega arith))
 
 -- the size of a header that is read
 size_read : (bs : List ℕ) (l : Layout) → lacking < size_for l (count_of bs) → size_for l (count_of bs) ≤ length bs → header_size (type_from l (numbers_of bs l)) ≡ size_for l (count_of bs)
@@ -77,53 +86,48 @@ module _ (rules bs : List ℕ) where
 
   module _ (valid : valid_of rules ≡ true) where
     -- a record that one try finds is decoded, with its flags, declared bytes and size
-    pub record_decoded : {s : Summary} → head_of rules bs ≡ Record s → decoded_of rules bs ≡ decoded_record bs s
+    pub record_decoded : {s : Summary} → head_of rules bs ≡ Record s → decoded_of rules bs ≡ Ok (decoded_record bs s)
     record_decoded = decoded_of_record rules bs valid
 
     -- ended, by the same ending, bad header and bad type: the one gives them where the other does
-    pub refusals_agree : (h : Head) → (answer_for h ≡ Done → ⊥) → (head_of rules bs ≡ h) ↔ ((decoded_of rules bs).answer ≡ answer_for h)
+    pub refusals_agree : (h : Head) {r : Refusal} → refusal_for h ≡ Some r → (head_of rules bs ≡ h) ↔ (decoded_of rules bs ≡ Err r)
     refusals_agree h f = (
-      λ e. answer_of_head rules bs valid ∙ ap answer_for e,
-      λ e.
-          let same : answer_for (head_of rules bs) ≡ answer_for h = sym (answer_of_head rules bs valid) ∙ e in
-          sym (refused_as_lem (head_of rules bs) (λ d. f (sym same ∙ d))) ∙ ap refused_as same ∙ refused_as_lem h f,
+      λ e. decoded_from_lem rules bs valid ∙ ap (λ (k : Head). decoded_from bs (judged_from k)) e ∙ (refused bs h).0 f,
+      λ e. sym (head_for_lem (head_of rules bs) ((refused bs (head_of rules bs)).1 (sym (decoded_from_lem rules bs valid) ∙ e))) ∙ head_for_lem h f,
     )
 
-  abbrev d : Decoded
-  d = decoded_of rules bs
-
   -- a decode that is done
-  module _ (done : d.answer ≡ Done) where
+  module _ (d : Decoded) (done : decoded_of rules bs ≡ Ok d) where
     -- a record that is decoded is one that one try finds, with its flags, declared bytes and size, and the socket and the die that its header names
     pub decoded_record_lem : head_of rules bs ≡ Record (decoded_summary (word_of bs) d)
     decoded_record_lem =
         let found = done_known rules bs done in
         let word = word_of bs in
         let flags = flags_of rules word in
-        rw found.decoded (found.head ∙ ap (λ (o : Origin). Record (naming o (summary_of bs word flags))) (sym (origin_read bs word flags found.word_is)))
+        rw (known_decoded rules bs found done)
+        (found.head ∙ ap (λ (o : Origin). Record (naming o (summary_of bs word flags))) (sym (origin_read bs word flags found.word_is)))
 
     -- ---- the header itself
 
     pub header_size_decoded : d.header_size ≡ header_size d.header.header_type
     header_size_decoded =
         let found = done_known rules bs done in
-        rw found.decoded (found.size ∙ sym (size_read bs (layout_of (word_of bs) (flags_of rules (word_of bs))) found.some found.room))
+        rw (known_decoded rules bs found done)
+        (found.size ∙ sym (size_read bs (layout_of (word_of bs) (flags_of rules (word_of bs))) found.some found.room))
 
     pub declared_decoded : d.declared ≡ record_bytes d.header d.flags
     unfolding declared_of
-    declared_decoded = rw (done_known rules bs done).decoded
+    declared_decoded = rw (known_decoded rules bs (done_known rules bs done) done)
 
 -- ---- by document 01's numbers
 
-number_from : (h : Head) → number_of (judged_from h).answer ≡ headNumber h
-unfolding judged_from
-number_from (Head.Ended e) = refl
-number_from Head.BadHeader = refl
-number_from (Head.BadType t) = refl
-number_from (Record s) = refl
-
 -- one try and decode answer with the same number
-pub numbers_agree : (rules bs : List ℕ) → valid_of rules ≡ true → number_of (decoded_of rules bs).answer ≡ headNumber (head_of rules bs)
-unfolding decoded_of judged_of
-numbers_agree rules bs valid =
-    ap (λ (good : Bool). number_of (cond good (judged_from (head_of rules bs)) (refusal BadRules)).answer) valid ∙ number_from (head_of rules bs)
+pub numbers_agree : (rules bs : List ℕ) → valid_of rules ≡ true → answer_of (decoded_of rules bs) ≡ headNumber (head_of rules bs)
+unfolding judged_from
+numbers_agree rules bs valid = ap answer_of (decoded_from_lem rules bs valid) ∙ by (head_of rules bs)
+  where
+    by : (h : Head) → answer_of (decoded_from bs (judged_from h)) ≡ headNumber h
+    by (Head.Ended e) = refl
+    by Head.BadHeader = refl
+    by (Head.BadType t) = refl
+    by (Record s) = refl

@@ -25,11 +25,11 @@ use Rattle.header.specs.Header.{header_of, decoded_of}
 use Rattle.header.specs.Access.{layout_in, count_in, header_size, record_bytes}
 use Rattle.header.specs.declared.Header.{Header}
 use Rattle.header.specs.declared.HeaderType.{HeaderType}
-use Rattle.header.specs.declared.Answer.TheVariants.{Done}
+use Rattle.header_encode.specs.declared.Refusal.{Refusal}
+use Rattle.std.specs.Prelude.{Result, Ok}
 use Rattle.header_write.specs.Values.{values_for, values_of, header_bytes}
 use Rattle.header_write.specs.Fit.{fields_fit}
 use Rattle.header_encode.specs.Encode.{encodable, encoded_of}
-use Rattle.header_encode.specs.declared.Encoded.{Encoded}
 use Rattle.header_encode.proofs.Fitting.{in_bits, can_version, can_read, can_choose, can_fit, can_count}
 use Rattle.header_encode.proofs.Tables.{tables_full, length_values}
 use Rattle.header_laws.specs.Typed.{Typed}
@@ -140,15 +140,15 @@ module _ (rules : List ℕ) (valid : valid_of rules ≡ true) (h : Header) (can 
       ∙ ap (λ (s : List Field × ℕ). parts_at bs l s.0) shape_is
       ∙ parts_are)
 
-  decoded_bytes : decoded_of rules bs ≡ decoded_as rules (cleared h)
+  decoded_bytes : decoded_of rules bs ≡ Ok (decoded_as rules (cleared h))
   unfolding declared_of
   decoded_bytes =
       record_decoded rules bs valid head_is
-      ∙ ap₂ (λ (k : Header) (z : ℕ). record { answer = Done; header = k; flags = flags; declared = record_bytes k flags; header_size = z }) header_is size_is
+      ∙ ap₂ (λ (k : Header) (z : ℕ). Ok (record { header = k; flags = flags; declared = record_bytes k flags; header_size = z })) header_is size_is
 
 -- decode after encode
 pub decode_encode : (rules : List ℕ) → valid_of rules ≡ true → (h : Header) → encodable rules h ≡ true → Typed h → (out : List ℕ) → header_size h.header_type ≤ length out
-    → decoded_of rules (encoded_of rules h out).0 ≡ decoded_as rules (cleared h)
+    → decoded_of rules (encoded_of rules h out).0 ≡ Ok (decoded_as rules (cleared h))
 decode_encode rules valid h can typed out room =
-    ap (λ (e : List ℕ × Encoded). decoded_of rules e.0) (encoded_is rules valid h can out room)
+    ap (λ (e : List ℕ × Result ℕ Refusal). decoded_of rules e.0) (encoded_is rules valid h can out room)
     ∙ decoded_bytes rules valid h can typed (drop (header_size h.header_type) out)

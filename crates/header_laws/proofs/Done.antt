@@ -1,4 +1,4 @@
--- A decode is made of what one try finds: its answer is that of the case, and where it is done there is a record of which all is known.
+-- A decode is made of what one try finds: where it is done, there is a record of which all is known.
 -- Case for case. Assumes nothing.
 use mathlib.Core.Path.{◌≡◌, refl, sym, ap, ◌∙◌}
 use mathlib.Core.Bool.{Bool, true, false, cond}
@@ -8,6 +8,7 @@ use native.Mathlib.Omega.{arith}
 use lib.Dec.{eqb, ltb}
 use lib.ListN.{length}
 use borrow.Author.Tests.{eqb-false}
+use Rattle.std.specs.Prelude.{Result, Ok, Err}
 use Rattle.le.specs.Le.{le}
 use Rattle.rules.specs.Rules.{valid_of, flags_of}
 use Rattle.header_judge.specs.Version.{no_word, end_mark, word_of}
@@ -17,10 +18,11 @@ use Rattle.header_judge.specs.declared.Head.{Head}
 use Rattle.header_judge.specs.declared.Head.TheVariants.{Record}
 use Rattle.header_judge.proofs.Heads.{record_told}
 use Rattle.header_judge.proofs.Sizes.{size_found}
-use Rattle.header.specs.Header.{refusal, judged_from, judged_of, decoded_from, decoded_of}
-use Rattle.header.specs.declared.Answer.TheVariants.{Done, BadRules}
+use Rattle.header.specs.Header.{judged_from, judged_of, decoded_from, decoded_of}
+use Rattle.header.specs.declared.Refusal.{Refusal}
+use Rattle.header.specs.declared.Refusal.TheVariants.{BadRules}
 use Rattle.header.specs.declared.Decoded.{Decoded}
-use Rattle.header_laws.specs.Agree.{answer_for, decoded_record}
+use Rattle.header_laws.specs.Agree.{decoded_record}
 
 -- a version word that is there is that of the bytes, and no end mark
 word_read : (bs : List ℕ) → (word_of bs ≡ no_word → ⊥) → (word_of bs ≡ le 4 bs 0) × (word_of bs ≡ end_mark → ⊥)
@@ -33,31 +35,21 @@ word_read bs there = by (ltb (length bs) 4) (eqb (le 4 bs 0) end_mark) refl ther
     by false true e f = absurd (f refl)
     by false false e f = (refl, eqb-false (le 4 bs 0) end_mark e)
 
-answer_from : (h : Head) → (judged_from h).answer ≡ answer_for h
-unfolding judged_from
-answer_from (Head.Ended e) = refl
-answer_from Head.BadHeader = refl
-answer_from (Head.BadType t) = refl
-answer_from (Record s) = refl
-
 module _ (rules bs : List ℕ) where
   module _ (valid : valid_of rules ≡ true) where
-    decoded_from_lem : decoded_of rules bs ≡ decoded_from bs (judged_from (head_of rules bs))
+    pub decoded_from_lem : decoded_of rules bs ≡ decoded_from bs (judged_from (head_of rules bs))
     unfolding decoded_of judged_of
     decoded_from_lem = rw valid
 
-    pub answer_of_head : (decoded_of rules bs).answer ≡ answer_for (head_of rules bs)
-    answer_of_head = ap (λ (d : Decoded). d.answer) decoded_from_lem ∙ answer_from (head_of rules bs)
-
-    pub decoded_of_record : {s : Summary} → head_of rules bs ≡ Record s → decoded_of rules bs ≡ decoded_record bs s
+    pub decoded_of_record : {s : Summary} → head_of rules bs ≡ Record s → decoded_of rules bs ≡ Ok (decoded_record bs s)
     unfolding judged_from
     decoded_of_record e = decoded_from_lem ∙ ap (λ (h : Head). decoded_from bs (judged_from h)) e
 
-  done_valid : (decoded_of rules bs).answer ≡ Done → valid_of rules ≡ true
+  done_valid : {d : Decoded} → decoded_of rules bs ≡ Ok d → valid_of rules ≡ true
   unfolding decoded_of judged_of
-  done_valid done = by (valid_of rules) done
+  done_valid {d} done = by (valid_of rules) done
     where
-      by : (b : Bool) → (cond b (judged_from (head_of rules bs)) (refusal BadRules)).answer ≡ Done → b ≡ true
+      by : (b : Bool) → decoded_from bs (cond b (judged_from (head_of rules bs)) (Err BadRules)) ≡ Ok d → b ≡ true
       by true e = refl
       by false e = cc
 
@@ -81,12 +73,13 @@ module _ (rules bs : List ℕ) where
     pub some : lacking < size_for (layout_of word flags) (count_of bs)
     pub room : size_for (layout_of word flags) (count_of bs) ≤ length bs
     pub head : head_of rules bs ≡ Record here
-    pub decoded : decoded_of rules bs ≡ decoded_record bs here
+    pub decoded : decoded_of rules bs ≡ Ok (decoded_record bs here)
 
-  pub done_known : (decoded_of rules bs).answer ≡ Done → Known
-  done_known done = by (head_of rules bs) refl (sym (answer_of_head (done_valid done)) ∙ done)
+  pub done_known : {d : Decoded} → decoded_of rules bs ≡ Ok d → Known
+  unfolding judged_from
+  done_known {d} done = by (head_of rules bs) refl (sym (decoded_from_lem (done_valid done)) ∙ done)
     where
-      by : (h : Head) → head_of rules bs ≡ h → answer_for h ≡ Done → Known
+      by : (h : Head) → head_of rules bs ≡ h → decoded_from bs (judged_from h) ≡ Ok d → Known
       by (Head.Ended ending) e f = absurd (let o : ◌≡◌ {A = ℕ} 0 1 = cc in omega arith)
       by Head.BadHeader e f = absurd (let o : ◌≡◌ {A = ℕ} 0 1 = cc in omega arith)
       by (Head.BadType t) e f = absurd (let o : ◌≡◌ {A = ℕ} 0 1 = cc in omega arith)
@@ -107,3 +100,7 @@ module _ (rules bs : List ℕ) where
             head = head;
             decoded = decoded_of_record (done_valid done) head;
           }
+
+  -- what is decoded is of that record
+  pub known_decoded : Known → {d : Decoded} → decoded_of rules bs ≡ Ok d → d ≡ decoded_record bs here
+  known_decoded found {d} done = let e : ◌≡◌ {A = Result Decoded Refusal} (Ok d) (Ok (decoded_record bs here)) = sym done ∙ found.decoded in cc

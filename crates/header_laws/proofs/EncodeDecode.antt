@@ -6,7 +6,7 @@ use mathlib.Core.List.{List, ◌++◌}
 use Prim.Native.Nat.{ℕ, ◌%◌, ◌/◌, ◌≤◌}
 use native.Mathlib.Omega.{arith}
 use lib.ListN.{length, take, drop}
-use borrow.Author.Tests.{lt-ltb, eq-eqb}
+use borrow.Author.Tests.{lt-ltb}
 use Rattle.le.proofs.Laws.{le_lt}
 use Rattle.layout.specs.Fields.{Field, read_all, bytes_of}
 use Rattle.layout.proofs.Full.{bytes_read}
@@ -19,20 +19,19 @@ use Rattle.header.specs.Header.{decoded_of}
 use Rattle.header.specs.Access.{layout_in, count_in, header_size}
 use Rattle.header.specs.declared.Header.{Header}
 use Rattle.header.specs.declared.Decoded.{Decoded}
-use Rattle.header.specs.declared.Answer.TheVariants as decoded
 use Rattle.header_write.specs.Values.{values_for, values_of, header_bytes}
 use Rattle.header_write.specs.Fit.{fields_fit}
-use Rattle.header_encode.specs.Encode.{version_fits, layout_number, encodable, answered, encoded_of}
-use Rattle.header_encode.specs.declared.Answer.TheVariants.{Done}
+use Rattle.header_encode.specs.Encode.{version_fits, encodable, encoded_of}
+use Rattle.std.specs.Prelude.{Ok}
 use Rattle.header_encode.proofs.Fitting.{as_fit}
 use Rattle.header_encode.proofs.Tables.{tables_full}
 use Rattle.header_laws.specs.Typed.{Bytes}
 use Rattle.header_laws.specs.Rounds.{unread_zero, restored}
 use Rattle.header_laws.proofs.Version.{word_version}
-use Rattle.header_laws.proofs.Layouts.{layout_from, shape_for, shape_read}
+use Rattle.header_laws.proofs.Layouts.{layout_from, shape_for, shape_read, layout_same}
 use Rattle.header_laws.proofs.Numbers.{Parts, header_with, parts_at, header_read}
 use Rattle.header_laws.proofs.Unread.{fits_read, values_read, unread_bytes}
-use Rattle.header_laws.proofs.Done.{Known, done_known}
+use Rattle.header_laws.proofs.Done.{Known, done_known, known_decoded}
 use Rattle.header_laws.proofs.Agree.{header_size_decoded}
 use Rattle.header_laws.proofs.Encoded.{encoded_is}
 
@@ -72,10 +71,10 @@ module _ (rules bs : List ℕ) (bytes : Bytes bs) (found : Known rules bs) where
 
   can : encodable rules h ≡ true
   can =
-      let chosen = ap (λ (w : ℕ). layout_number (layout_of w (flags_of rules w))) word_back ∙ ap layout_number (sym layout_is) in
+      let chosen = ap (λ (w : ℕ). layout_of w (flags_of rules w)) word_back ∙ sym layout_is in
       sym
       (as_fit rules h (version_fits_lem word) (λ e. found.there (sym word_back ∙ e)) (λ e. found.unmarked (sym word_back ∙ e))
-      (eq-eqb (layout_number (layout_of (word_from (version_of word)) (flags_of rules (word_from (version_of word))))) (layout_number (layout_in p.fields)) chosen))
+      (layout_same (layout_of (word_from (version_of word)) (flags_of rules (word_from (version_of word)))) (layout_in p.fields) chosen))
       ∙ ap (λ (w : ℕ). fields_fit p.fields (revision w) p.size.extended_record_size) found.word_is
       ∙ fits_read bs l n
 
@@ -93,25 +92,22 @@ module _ (rules bs : List ℕ) (bytes : Bytes bs) (found : Known rules bs) where
       ∙ bytes_read (size_for l n) (table_of l n) (tables_full l n) (unread_zero l bs) kept.0 (omega (arith, kept.1, found.room))
       ∙ ap₂ (λ (s : List Field × ℕ) (k : Layout). take s.1 (unread_zero k bs)) (sym shape_is) (sym layout_is)
 
-  header_is : (decoded_of rules bs).header ≡ h
-  header_is = ap (λ (d : Decoded). d.header) found.decoded ∙ header_read bs word flags
+  header_is : (d : Decoded) → decoded_of rules bs ≡ Ok d → d.header ≡ h
+  header_is d done = ap (λ (d : Decoded). d.header) (known_decoded rules bs found done) ∙ header_read bs word flags
 
-module _ (rules bs : List ℕ) (bytes : Bytes bs) (done : (decoded_of rules bs).answer ≡ decoded.Done) where
-  abbrev d : Decoded
-  d = decoded_of rules bs
-
+module _ (rules bs : List ℕ) (bytes : Bytes bs) (d : Decoded) (done : decoded_of rules bs ≡ Ok d) where
   -- encode takes every header that was decoded
   pub decoded_encodable : encodable rules d.header ≡ true
-  decoded_encodable = let found = done_known rules bs done in rw (header_is rules bs bytes found) (can rules bs bytes found)
+  decoded_encodable = let found = done_known rules bs done in rw (header_is rules bs bytes found d done) (can rules bs bytes found)
 
   -- its bytes are those that it was decoded from, unread bits as 0
   pub bytes_restored : header_bytes d.header ≡ restored d.header.header_type bs
-  bytes_restored = let found = done_known rules bs done in rw (header_is rules bs bytes found) (bytes_are rules bs bytes found)
+  bytes_restored = let found = done_known rules bs done in rw (header_is rules bs bytes found d done) (bytes_are rules bs bytes found)
 
   -- encode after decode
   pub encode_decode : (out : List ℕ) → d.header_size ≤ length out
-      → encoded_of rules d.header out ≡ (restored d.header.header_type bs ++ drop d.header_size out, answered Done d.header_size)
+      → encoded_of rules d.header out ≡ (restored d.header.header_type bs ++ drop d.header_size out, Ok d.header_size)
   encode_decode out room =
-      let size : d.header_size ≡ header_size d.header.header_type = header_size_decoded rules bs done in
+      let size : d.header_size ≡ header_size d.header.header_type = header_size_decoded rules bs d done in
       encoded_is rules (done_known rules bs done).valid d.header decoded_encodable out (omega arith)
-      ∙ ap₂ (λ (b : List ℕ) (z : ℕ). (b ++ drop z out, answered Done z)) bytes_restored (sym size)
+      ∙ ap₂ (λ (b : List ℕ) (z : ℕ). (b ++ drop z out, Ok z)) bytes_restored (sym size)

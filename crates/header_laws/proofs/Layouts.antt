@@ -8,6 +8,9 @@ use native.Mathlib.Omega.{arith}
 use lib.Dec.{eqb}
 use lib.ListN.{length, get_or}
 use borrow.Author.Tests.{eqb-true}
+use Rattle.header_judge.specs.contracts.Layout as layout
+use denote.Enum.Declared.{declared}
+use denote.Enum.Bare.{same_true, true_same}
 use Rattle.le.specs.Le.{le}
 use Rattle.layout.specs.Fields.{Field, read_all}
 use Rattle.rules.specs.Rules.{has, legacy_server, legacy_gpu}
@@ -20,7 +23,7 @@ use Rattle.header.specs.Layouts.{table_of, type_from}
 use Rattle.header.specs.Access.{layout_in, count_in, header_size}
 use Rattle.header.specs.declared.HeaderType.{HeaderType}
 use Rattle.header.specs.declared.HeaderType.TheVariants.{Type0, Type1, Type2, Type3, Type4, Type5, Type6, Type0LegacyServer, Type0LegacyGpu}
-use Rattle.header_encode.specs.Encode.{layout_number}
+use Rattle.header_judge.specs.contracts.LayoutPartialEq.TheImpl as layouts
 
 -- ---- the layout and the count of the fields that are read
 
@@ -101,23 +104,10 @@ sizes_within (Type6 p d k n c) = omega arith
 sizes_within (Type0LegacyServer p d k s) = omega arith
 sizes_within (Type0LegacyGpu p s) = omega arith
 
--- ---- layouts by their number
+-- ---- whether two layouts are the same
 
-layout_at : ℕ → Layout
-layout_at n = get_or (Zero ∷ One ∷ Two ∷ Three ∷ Four ∷ Five ∷ Six ∷ LegacyServer ∷ LegacyGpu ∷ []) n Bad
+pub same_layout : (l k : Layout) → (layouts.ghosts).eq l k ≡ true → l ≡ k
+same_layout l k e = same_true (declared layout.enum) tt l k e
 
-layout_at_lem : (l : Layout) → layout_at (layout_number l) ≡ l
-unfolding layout_at
-layout_at_lem Zero = refl
-layout_at_lem One = refl
-layout_at_lem Two = refl
-layout_at_lem Three = refl
-layout_at_lem Four = refl
-layout_at_lem Five = refl
-layout_at_lem Six = refl
-layout_at_lem LegacyServer = refl
-layout_at_lem LegacyGpu = refl
-layout_at_lem Bad = refl
-
-pub same_layout : (l k : Layout) → eqb (layout_number l) (layout_number k) ≡ true → l ≡ k
-same_layout l k e = sym (layout_at_lem l) ∙ ap layout_at (eqb-true (layout_number l) (layout_number k) e) ∙ layout_at_lem k
+pub layout_same : (l k : Layout) → l ≡ k → (layouts.ghosts).eq l k ≡ true
+layout_same l k e = true_same (declared layout.enum) l k e

@@ -8,21 +8,20 @@ use Rattle.header_judge.specs.declared.Head.TheVariants.{Record}
 use Rattle.header.specs.Header.{header_of}
 use Rattle.header.specs.Access.{socket_of, die_of}
 use Rattle.header.specs.declared.HeaderType.{HeaderType}
-use Rattle.header.specs.declared.Answer.{Answer}
-use Rattle.header.specs.declared.Answer.TheVariants.{Done, Ended, BadHeader, BadType}
+use Rattle.header.specs.declared.Refusal.{Refusal}
+use Rattle.header.specs.declared.Refusal.TheVariants.{Ended, BadHeader, BadType}
 use Rattle.header.specs.declared.Decoded.{Decoded}
 
--- the answer for what one try found
-abbrev pub answer_for : Head → Answer
-answer_for (Head.Ended e) = Ended e
-answer_for Head.BadHeader = BadHeader
-answer_for (Head.BadType t) = BadType t
-answer_for (Record s) = Done
+-- the refusal for what one try found, where it found no record
+abbrev pub refusal_for : Head → Option Refusal
+refusal_for (Head.Ended e) = Some (Ended e)
+refusal_for Head.BadHeader = Some BadHeader
+refusal_for (Head.BadType t) = Some (BadType t)
+refusal_for (Record s) = None
 
 -- a decode that finds a record
 abbrev pub decoded_record : List ℕ → Summary → Decoded
-decoded_record bs s =
-    record { answer = Done; header = header_of bs s.word s.flags; flags = s.flags; declared = s.declared; header_size = s.size }
+decoded_record bs s = record { header = header_of bs s.word s.flags; flags = s.flags; declared = s.declared; header_size = s.size }
 
 -- the die that a header names as a number
 abbrev pub die_number : Option ℕ → ℕ

@@ -9,7 +9,6 @@ use Rattle.header.specs.Layouts.{padded}
 use Rattle.header.specs.Access.{layout_in, count_in, header_size, record_bytes}
 use Rattle.header.specs.declared.Header.{Header}
 use Rattle.header.specs.declared.HeaderType.{HeaderType}
-use Rattle.header.specs.declared.Answer.TheVariants.{Done}
 use Rattle.header.specs.declared.Decoded.{Decoded}
 
 -- ---- decode after encode
@@ -32,7 +31,6 @@ flags_in rules h = flags_of rules (word_from h.version)
 abbrev pub decoded_as : List ℕ → Header → Decoded
 decoded_as rules h =
     record {
-      answer = Done;
       header = h;
       flags = flags_in rules h;
       declared = record_bytes h (flags_in rules h);

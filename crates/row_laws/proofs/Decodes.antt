@@ -1,17 +1,18 @@
 -- Every row of a listing, of a cut one too, has what a decode of the whole input from its offset on tells.
 -- The header that stands there is the row's, and a decode agrees with one try. Assumes nothing.
-use mathlib.Core.Path.{◌≡◌, sym, ap, ◌∙◌}
+use mathlib.Core.Path.{◌≡◌, refl, sym, ap, ◌∙◌}
 use mathlib.Core.List.{List, [], ◌∷◌}
 use mathlib.Core.Bool.{true}
 use Prim.Native.Nat.{ℕ, zero, suc}
 use lib.ListN.{drop}
+use Rattle.std.specs.Prelude.{Ok}
 use Rattle.rules.specs.Rules.{valid_of}
 use Rattle.header_judge.specs.Version.{word_of}
 use Rattle.header_judge.specs.declared.Summary.{Summary}
 use Rattle.header_judge.specs.declared.Head.TheVariants.{Record}
-use Rattle.header.specs.declared.Answer.TheVariants.{Done}
+use Rattle.header.specs.Header.{decoded_of}
 use Rattle.header.specs.declared.Decoded.{Decoded}
-use Rattle.header_laws.specs.Agree.{decoded_summary}
+use Rattle.header_laws.specs.Agree.{decoded_record, decoded_summary}
 use Rattle.header_laws.proofs.Agree.{record_decoded, decoded_record_lem}
 use Rattle.region_rows.specs.declared.Span.{Span}
 use Rattle.region_rows.specs.Rows.{capacity, spans_in}
@@ -22,7 +23,7 @@ use Rattle.region.specs.Listing.{shown, walked, listed}
 use Rattle.region.specs.declared.Listing.{Listing}
 use Rattle.region.proofs.Shows.{listed_cases}
 use Rattle.region_laws.specs.Clauses.{Every, rows_of}
-use Rattle.row_laws.specs.Decodes.{decoded_at, Decodes}
+use Rattle.row_laws.specs.Decodes.{Decodes}
 use Rattle.row_laws.proofs.Stands.{EachFound, Stands, all_stand}
 
 same_summary : {s₁ s₂ : Summary} → Record s₁ ≡ Record s₂ → s₁ ≡ s₂
@@ -32,15 +33,16 @@ same_summary e = cc
 stands_decodes : (rules bytes : List ℕ) → valid_of rules ≡ true → (r : Span) → Stands rules bytes r → Decodes rules bytes r
 stands_decodes rules bytes valid r e =
     let bs = drop r.offset bytes in
-    let got = record_decoded rules bs valid e in
-    let done : (decoded_at rules bytes r).answer ≡ Done = ap (λ (d : Decoded). d.answer) got in
-    let same : decoded_summary (word_of bs) (decoded_at rules bytes r) ≡ summary_in r = same_summary (sym (decoded_record_lem rules bs done) ∙ e) in
+    let read : Decoded = decoded_record bs (summary_in r) in
+    let done : decoded_of rules bs ≡ Ok read = record_decoded rules bs valid e in
+    let same : decoded_summary (word_of bs) read ≡ summary_in r = same_summary (sym (decoded_record_lem rules bs read done) ∙ e) in
     record {
+      decoded = read;
       done = done;
-      version = ap (λ (d : Decoded). d.header.version) got;
-      flags = ap (λ (s : Summary). s.flags) same;
-      declared = ap (λ (s : Summary). s.declared) same;
-      size = ap (λ (s : Summary). s.size) same;
+      version = refl;
+      flags = refl;
+      declared = refl;
+      size = refl;
       socket = ap (λ (s : Summary). s.socket) same;
       die = ap (λ (s : Summary). s.die) same;
     }

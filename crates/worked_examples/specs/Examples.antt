@@ -1,10 +1,12 @@
 -- The worked examples P1 to P12 of document 01, 'Checked examples', with each ending and each reason of document 02's C-12, each clause of its C-14
 -- and the socket and die of each layout of its C-17, as one table of rows.
-use Rattle.std.specs.Prelude.{ℕ, zero, suc, ◌+◌, ◌*◌, ◌/◌, ◌%◌, Bool, true, false, List, [], ◌∷◌, ◌++◌, Option, Some, None, length, take, replicate}
-use Rattle.answers.specs.Numbers.{ended}
+use Rattle.std.specs.Prelude.{ℕ, zero, suc, ◌+◌, ◌*◌, ◌/◌, ◌%◌, Bool, true, false, List, [], ◌∷◌, ◌++◌, Option, Some, None, Result, Ok, Err, length, take, replicate}
+use Rattle.answers.specs.Numbers.{done, ended}
 use Rattle.header_judge.specs.Head.{no_die}
 use Rattle.header.specs.Access.{die_of}
 use Rattle.header.specs.Header.{number_of, ending_told, decoded_of}
+use Rattle.header.specs.declared.Decoded.{Decoded}
+use Rattle.header.specs.declared.Refusal.{Refusal}
 use Rattle.header.specs.declared.HeaderType.{HeaderType}
 use Rattle.header.specs.declared.HeaderType.TheVariants.{Type0, Type1, Type2, Type3, Type4, Type5, Type6, Type0LegacyServer, Type0LegacyGpu}
 use Rattle.region_rows.specs.declared.Span.{Span}
@@ -215,6 +217,11 @@ revised revision = revision ∷ replicate 31 0
 abbrev counted : ℕ → List ℕ
 counted word = (0x01 ∷ 0x36 ∷ 0x12 ∷ 0x03 ∷ replicate 22 0) ++ (word % 256 ∷ word / 256 ∷ replicate 508 0)
 
+-- a decode: its answer, and how the records end or what is told of a header
+abbrev told : (Decoded → List ℕ) → Result Decoded Refusal → List ℕ
+told say (Ok d) = done ∷ say d
+told say (Err refusal) = number_of refusal ∷ ending_told refusal ∷ []
+
 unfoldable pub computed : Example → List ℕ
 computed (lists bytes limit room answer type rows tries whole stop spans) =
     let end = listed [] bytes limit (replicate (room * width) 0) in
@@ -223,19 +230,13 @@ computed (lists bytes limit room answer type rows tries whole stop spans) =
 computed (marks bytes answer whole) =
     let end = listed (always 8) bytes 9 (replicate (9 * width) 0) in
     listing_number end.1.answer ∷ bit end.1.whole ∷ []
-computed (ends bytes ending) =
-    let end = decoded_of [] bytes in
-    number_of end.answer ∷ ending_told end.answer ∷ []
-computed (die revision id) =
-    let end = decoded_of (always 1) (revised revision) in
-    number_of end.answer ∷ die_number (die_of end.header.header_type)
+computed (ends bytes ending) = told (λ d. []) (decoded_of [] bytes)
+computed (die revision id) = told (λ d. die_number (die_of d.header.header_type)) (decoded_of (always 1) (revised revision))
 computed (names type revision flags socket id) =
     let end = listed (always flags) (marked type revision) 9 (replicate (9 * width) 0) in
     let first = span_at end.0 0 in
     listing_number end.1.answer ∷ first.socket ∷ first.die ∷ first.flags ∷ []
-computed (half word count complete size) =
-    let end = decoded_of [] (counted word) in
-    number_of end.answer ∷ end.header_size ∷ half_in end.header.header_type
+computed (half word count complete size) = told (λ d. d.header_size ∷ half_in d.header.header_type) (decoded_of [] (counted word))
 
 -- what the documents say of it
 abbrev pub stated : Example → List ℕ
