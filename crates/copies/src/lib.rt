@@ -1,16 +1,14 @@
-// One copy of bytes: by a loop, so that the C library asks no function of its caller for it.
+// One copy of items: by a loop, so that the C library asks no function of its caller for it.
 #![tactic(auto)]
 
 ghost use Rattle.std.specs.Prelude.{◌≡◌, length};
 
-// Copies some bytes over as many others.
-pub fn copy(from: &[u8], to: &mut [u8])
+// Copies some items over as many others.
+pub fn copy<T: Copy>(from: &[T], to: &mut [T])
     requires { length from.now ≡ length to.old }
     ensures { to.new ≡ from.now }
 {
-    let mut at: usize = 0;
-    while at < from.len() {
-        to[at] = from[at];
-        at = at + 1;
+    for (at, item) in from.iter().enumerate() {
+        to[at] = *item;
     }
 }

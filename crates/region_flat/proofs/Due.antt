@@ -15,7 +15,8 @@ use Rattle.header_judge.specs.Head.{head_of}
 use Rattle.region_rows.specs.declared.Span.{Span}
 use Rattle.region_try.specs.Tries.{Try, none, hit, try_of, deepest, rows_found, within, box_tries, region_tries}
 use Rattle.region_try.proofs.Tries.{rows_append, records_end, records_first, records_stop, records_hit}
-use Rattle.region_flat.specs.declared.walk.Level.{Level}
+use Rattle.region_flat.specs.declared.place.Level.{Level}
+use Rattle.region_flat.specs.Steps.{past, inside}
 
 -- ---- rows
 
@@ -44,15 +45,8 @@ take_least d k h xs e =
 -- ---- the levels
 
 -- what a record of levels has where there is none
-abbrev pub ground : Level
-ground = record { at = 0; till = 0; parent = 0 }
-
--- a level past a record, and the level inside one, by its declared and its held bytes, its header's size and its row
-abbrev pub past : Level → ℕ → Level
-past x declared = record { at = x.at + declared; till = x.till; parent = x.parent }
-
-abbrev pub inside : Level → ℕ → ℕ → ℕ → Level
-inside x held size row = record { at = x.at + size; till = x.at + held; parent = row }
+abbrev pub empty : Level
+empty = record { at = 0; till = 0; parent = 0 }
 
 module _ (rules bytes : List ℕ) where
   -- the bytes that are left in a level
@@ -66,7 +60,7 @@ module _ (rules bytes : List ℕ) where
   -- those that are left in the levels around it, from the inside out
   unfoldable pub rest_around : List Level → ℕ → ℕ → List Try
   rest_around xs zero n = []
-  rest_around xs (suc l) n = rest l (get_or xs l ground) n ++ rest_around xs l (n + length (rows_found (rest l (get_or xs l ground) n)))
+  rest_around xs (suc l) n = rest l (get_or xs l empty) n ++ rest_around xs l (n + length (rows_found (rest l (get_or xs l empty) n)))
 
   -- all that are due
   abbrev pub due : List Level → ℕ → Level → ℕ → List Try
@@ -99,7 +93,7 @@ module _ (rules bytes : List ℕ) where
   unfolding rest_around
   around_none xs n = refl
 
-  pub around_one : (xs : List Level) (l n : ℕ) → rest_around xs (suc l) n ≡ due xs l (get_or xs l ground) n
+  pub around_one : (xs : List Level) (l n : ℕ) → rest_around xs (suc l) n ≡ due xs l (get_or xs l empty) n
   unfolding rest_around
   around_one xs l n = refl
 
@@ -111,7 +105,7 @@ module _ (rules bytes : List ℕ) where
   unfolding rest_around
   around_kept xs l x zero h n = refl
   around_kept xs l x (suc m) h n =
-      rw (get_or-set_other xs l m x ground (below l m h), around_kept xs l x m (omega arith))
+      rw (get_or-set_other xs l m x empty (below l m h), around_kept xs l x m (omega arith))
 
   -- ---- the tries that are due
 
@@ -162,4 +156,4 @@ module _ (rules bytes : List ℕ) where
         due_inside y h i =
             let outermost : l ≤ l = omega arith in
             due_hit
-            ∙ rw (i, around_one, get_or-set_same xs l (past x r.declared) ground h, around_kept xs l (past x r.declared) l outermost)
+            ∙ rw (i, around_one, get_or-set_same xs l (past x r.declared) empty h, around_kept xs l (past x r.declared) l outermost)

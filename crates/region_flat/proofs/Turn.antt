@@ -6,7 +6,7 @@ use mathlib.Core.Bool.{Bool, true, false, ◌&&◌}
 use Prim.Native.Nat.{min, ℕ, zero, suc, ◌+◌, ◌-◌, ◌*◌, ◌≤◌, ◌<◌}
 use native.Mathlib.Omega.{arith}
 use lib.Dec.{leb}
-use lib.ListN.{length, get_or, take, set, length-take, length-set}
+use lib.ListN.{length, get_or, take, set, replicate, length-take, length-set}
 use lib.Seq.{take-length}
 use Rattle.header_judge.specs.Version.{word_of}
 use Rattle.header_judge.specs.Head.{head_with, head_of}
@@ -31,9 +31,9 @@ use Rattle.region_try.proofs.Runs.{spent_going, full_going, step_spent, step_mad
 use Rattle.region_walk.specs.Steps.{going, walk_end, end_where, stands_in, region_end}
 use Rattle.region_walk.specs.declared.Walked.{Walked}
 use Rattle.region_walk.proofs.Ends.{ends_none, ends_cut, ends_on, ends_stop}
-use Rattle.region_flat.specs.declared.walk.Level.{Level}
-use Rattle.region_flat.specs.Steps.{level_of}
-use Rattle.region_flat.proofs.Due.{ground, past, inside, left, rest, rest_around, due, next, inner, left_length, left_inside, around_none, around_one, due_shut, due_first, due_stop, due_past, due_inside}
+use Rattle.region_flat.specs.declared.place.Level.{Level}
+use Rattle.region_flat.specs.Steps.{past, inside}
+use Rattle.region_flat.proofs.Due.{empty, left, rest, rest_around, due, next, inner, left_length, left_inside, around_none, around_one, due_shut, due_first, due_stop, due_past, due_inside}
 
 -- ---- a place
 
@@ -59,15 +59,12 @@ place around level here = record { around = around; level = level; here = here }
 
 -- every kept level ends within so many bytes
 abbrev pub Within : List Level → ℕ → Type 0
-Within xs n = (l : ℕ) → (get_or xs l ground).till ≤ n
+Within xs n = (l : ℕ) → (get_or xs l empty).till ≤ n
 
-pub within_none : (n : ℕ) → Within (ground ∷ ground ∷ ground ∷ ground ∷ ground ∷ []) n
-within_none n zero = omega arith
-within_none n (suc zero) = omega arith
-within_none n (suc (suc zero)) = omega arith
-within_none n (suc (suc (suc zero))) = omega arith
-within_none n (suc (suc (suc (suc zero)))) = omega arith
-within_none n (suc (suc (suc (suc (suc l))))) = omega arith
+pub within_none : (n many : ℕ) → Within (replicate many empty) n
+within_none n zero l = omega arith
+within_none n (suc many) zero = omega arith
+within_none n (suc many) (suc l) = within_none n many l
 
 within_set : (xs : List Level) (n i : ℕ) (x : Level) → Within xs n → x.till ≤ n → Within (set xs i x) n
 within_set [] n i x f h l = f l
@@ -103,7 +100,7 @@ module _ (p : Whole) where
   abbrev pub entire : List ℕ → List ℕ × Walked
   entire t = ends (region_tries p.rules deepest p.bytes 0 top 0) (going t 0 0 true)
 
-  pub ahead_start : (xs : List Level) (t : List ℕ) → entire t ≡ ahead (place xs 0 (level_of 0 (length p.bytes) top)) t 0 0 true
+  pub ahead_start : (xs : List Level) (t : List ℕ) → entire t ≡ ahead (place xs 0 (record { at = 0; till = length p.bytes; parent = top })) t 0 0 true
   ahead_start xs t =
       let all : length p.bytes - 0 ≡ length p.bytes = omega arith in
       sym (ap (λ (vs : List Try). ends vs (going t 0 0 true)) (rw (around_none p.rules p.bytes xs, append-nil, all, take-length)))
@@ -120,7 +117,7 @@ module _ (p : Whole) where
     -- the place in the level around it
     module _ (m : ℕ) (e : k.level ≡ suc m) where
       abbrev back : Place
-      back = place k.around m (get_or k.around m ground)
+      back = place k.around m (get_or k.around m empty)
 
       dues_back : (rows : ℕ) → dues k rows ≡ dues back rows
       dues_back rows = due_shut p.rules p.bytes k.around k.level k.here rows shut ∙ rw (e, around_one p.rules p.bytes k.around m rows)
@@ -243,7 +240,7 @@ module _ {p : Whole} {k : Place} {t t₁ : List ℕ} {rows tries : ℕ} {f : Fou
 
     -- inside a Box the level does
     abbrev pub stopped : Place
-    stopped = place k.around k.level (level_of k.here.till k.here.till k.here.parent)
+    stopped = place k.around k.level (record { at = k.here.till; till = k.here.till; parent = k.here.parent })
 
     pub stop_turn : 0 < k.level → On stopped rows (whole && clean_stop stop)
     stop_turn z =

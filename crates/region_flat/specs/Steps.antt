@@ -1,5 +1,5 @@
 -- What the parts of the flat walk give: a level of its place, the remembered words, and what is found where no record is.
-use Rattle.std.specs.Prelude.{ℕ, List, cond, eqb}
+use Rattle.std.specs.Prelude.{ℕ, ◌+◌, List, cond, eqb}
 use Rattle.header_judge.specs.Version.{header_type}
 use Rattle.header_judge.specs.Head.{no_size, lacking}
 use Rattle.header_judge.specs.Steps.{Known}
@@ -7,11 +7,15 @@ use Rattle.region_try.specs.declared.stop.Stop.TheVariants.{BadHeader, BadType, 
 use Rattle.region_try.specs.declared.Found.{Found}
 use Rattle.region_try.specs.declared.Found.TheVariants.{Nothing}
 use Rattle.region_flat.specs.declared.one_try.Memory.{Memory}
-use Rattle.region_flat.specs.declared.walk.Level.{Level}
+use Rattle.region_flat.specs.declared.place.Level.{Level}
 
--- a level, from the position that is next in it, its end, and the row of the Box that it stands in
-abbrev pub level_of : ℕ → ℕ → ℕ → Level
-level_of at till parent = record { at = at; till = till; parent = parent }
+-- a level past a record, by what it declares
+abbrev pub past : Level → ℕ → Level
+past x declared = record { at = x.at + declared; till = x.till; parent = x.parent }
+
+-- the level inside a Box, by its held bytes, its header's size and its row
+abbrev pub inside : Level → ℕ → ℕ → ℕ → Level
+inside x held size row = record { at = x.at + size; till = x.at + held; parent = row }
 
 -- the flags of both words are known
 abbrev pub Remembers : List ℕ → Memory → Type 0

@@ -6,6 +6,7 @@ ghost use Rattle.region_rows.specs.Rows.{width};
 ghost use Rattle.region.specs.Listing.{listed};
 
 pub mod one_try;
+pub mod place;
 pub mod walk;
 
 use answers::MOST_BYTES;

@@ -1,7 +1,7 @@
 -- What others need of a table and a word's flags: a valid table has whole rows and at most 192 numbers, its flags are at most 15; a flag that no row has, no word has; a row that does not apply changes nothing, and one that is looked at gives its flags or none.
 -- By induction over the rows, from the bits of a union. Assumes nothing.
 use mathlib.Core.Path.{◌≡◌, refl, sym, ap, ◌∙◌}
-use mathlib.Core.List.{List, [], ◌∷◌, ◌++◌}
+use mathlib.Core.List.{List, [], ◌∷◌, ◌++◌, map}
 use mathlib.Core.Bool.{Bool, true, false, cond, not, ◌&&◌}
 use Prim.Native.Nat.{ℕ, ◌/◌, ◌%◌, ◌^◌, ◌≤◌, ◌<◌, max}
 use native.Mathlib.Nat.{zero-div}
@@ -10,8 +10,9 @@ use lib.Bits.{bit_or, or_zero_r, or_lt, or_shr, or_step}
 use lib.Dec.{eqb, leb}
 use lib.ListN.{length}
 use borrow.Author.Tests.{eqb-true, eqb-false, ne_eqb, leb-true}
+use Rattle.std.specs.List.{fold, list_all}
 use Rattle.basics.proofs.Bools.{both}
-use Rattle.rules.specs.Rules.{has, Rule, applies, with_rule, rules_of, with_rules, flags_of, flags_small, valid_of, none_has}
+use Rattle.rules.specs.Rules.{has, Rule, row, applies, with_rule, rules_of, with_rules, flags_of, flags_small, valid_of, none_has}
 
 -- ---- a valid table
 
@@ -26,6 +27,12 @@ valid_parts rules e =
 
 pub valid_rows : (rules : List ℕ) → valid_of rules ≡ true → (length rules % 3 ≡ 0) × (length rules ≤ 192)
 valid_rows rules e = let q = valid_parts rules e in (q.0, omega arith)
+
+-- each row's flags number is looked at
+pub each_small : (rows : List (List ℕ)) → list_all (λ numbers. leb (row numbers).flags 15) rows ≡ flags_small (map row rows)
+unfolding flags_small
+each_small [] = refl
+each_small (r ∷ rows) = ap (λ (t : Bool). leb (row r).flags 15 && t) (each_small rows)
 
 -- ---- rows, and those after them
 
@@ -106,6 +113,16 @@ united false all flags = or_zero_r all
 pub row_adds_none : (t : Bool) (all : ℕ) → cond t (bit_or all 0) all ≡ all
 row_adds_none true all = or_zero_r all
 row_adds_none false all = refl
+
+-- what is added to some flags for a row
+abbrev pub looked_at : ℕ → ℕ → Rule → ℕ
+looked_at word all r = bit_or all (cond (applies word r) r.flags 0)
+
+-- each row is looked at in turn
+pub fold_looked : (word all : ℕ) (rows : List (List ℕ)) → fold (λ all numbers. looked_at word all (row numbers)) all rows ≡ with_rules word all (map row rows)
+unfolding with_rules
+fold_looked word all [] = refl
+fold_looked word all (r ∷ rows) = ap (λ (f : ℕ). fold (λ all numbers. looked_at word all (row numbers)) f rows) (united (applies word (row r)) all (row r).flags) ∙ fold_looked word (with_rule word all (row r)) rows
 
 -- the first of the rules that are left, and those after it
 pub looked : (word all given : ℕ) {r : Rule} {left after : List Rule} → left ≡ r ∷ after → given ≡ cond (applies word r) r.flags 0

@@ -1,5 +1,5 @@
 -- The rule table (document 01, 'Rule table'): the flags that it gives a version word, and when it is valid.
-use Rattle.std.specs.Prelude.{ℕ, ◌/◌, ◌%◌, List, [], ◌∷◌, Bool, true, cond, not, ◌&&◌, eqb, leb, length}
+use Rattle.std.specs.Prelude.{ℕ, ◌/◌, ◌%◌, List, [], ◌∷◌, Bool, true, cond, not, ◌&&◌, eqb, leb, length, get_or}
 use Rattle.std.specs.Int.Bits.{bit_and, bit_or}
 
 -- ---- the four flags
@@ -29,6 +29,10 @@ pub record Rule : Type 0 where
 
 abbrev pub rule : ℕ → ℕ → ℕ → Rule
 rule mask wanted flags = record { mask = mask; wanted = wanted; flags = flags }
+
+-- three numbers as a row
+abbrev pub row : List ℕ → Rule
+row numbers = rule (get_or numbers 0 0) (get_or numbers 1 0) (get_or numbers 2 0)
 
 -- the whole rows of a table
 unfoldable pub rules_of : List ℕ → List Rule

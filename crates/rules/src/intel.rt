@@ -34,11 +34,6 @@ pub fn write(out: &mut [u32]) -> u32
     if out.len() < WORDS {
         return WORDS as u32;
     }
-    let rules = table();
-    let mut at: usize = 0;
-    while at < WORDS {
-        out[at] = rules[at];
-        at = at + 1;
-    }
+    copies::copy(&table(), &mut out[..WORDS]);
     WORDS as u32
 }

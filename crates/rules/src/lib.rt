@@ -2,13 +2,14 @@
 // A table is rows of three numbers: mask, wanted, flags.
 #![tactic(auto)]
 
-ghost use Rattle.std.specs.Prelude.{◌≡◌, ◌+◌, ◌<◌, cond};
-ghost use Rattle.rules.specs.Rules.{has, rule, applies, flags_of, valid_of};
+ghost use Rattle.std.specs.Prelude.{◌≡◌, ◌<◌, ◌/◌, cond, length, map, leb};
+ghost use Rattle.std.specs.List.{list_all};
+ghost use Rattle.rules.specs.Rules.{has, row, rule, rules_of, applies, flags_of, valid_of};
 
 pub mod columns;
 pub mod intel;
 
-// The flags, as in document 01.
+// The flags, as in document 01. They stay numbers: users and C put them together in a flags word.
 pub const LEGACY_SERVER: u32 = 1;
 
 pub const LEGACY_GPU: u32 = 2;
@@ -32,24 +33,27 @@ pub fn has_flag(flags: u32, flag: u32) -> bool
     flags / flag % 2 == 1
 }
 
+// The whole rows of a table.
+pub fn rows_of(rules: &[u32]) -> &[[u32; NUMBERS_IN_RULE]]
+    ensures rows { map row result.now ≡ rules_of rules.now }
+    ensures many { length result.now ≡ length rules.now / 3 }
+{
+    rules.as_chunks().0
+}
+
+// Whether no flags number of some rows is above 15.
+fn all_small(rows: &[[u32; NUMBERS_IN_RULE]]) -> bool
+    ensures { result ≡ list_all (λ numbers. leb (row numbers).flags 15) rows.now }
+{
+    rows.iter().all(|[_, _, flags]| *flags <= EVERY_FLAG)
+}
+
 // Whether a table has whole rows, at most 64, and no flags number above 15.
 pub fn valid(rules: &[u32]) -> bool
     ensures { result ≡ valid_of rules.now }
 {
-    if rules.len() % NUMBERS_IN_RULE != 0 {
-        return false;
-    }
-    if MOST_ROWS < rules.len() / NUMBERS_IN_RULE {
-        return false;
-    }
-    let mut at: usize = 0;
-    while at < rules.len() {
-        if EVERY_FLAG < rules[at + 2] {
-            return false;
-        }
-        at = at + NUMBERS_IN_RULE;
-    }
-    true
+    let rows = rows_of(rules);
+    rules.len() % NUMBERS_IN_RULE == 0 && rows.len() <= MOST_ROWS && all_small(rows)
 }
 
 // The flags that a row gives a word: its own where it applies, else none.
@@ -63,11 +67,7 @@ pub fn flags_given(word: u32, mask: u32, wanted: u32, flags: u32) -> u32
 pub fn flags(rules: &[u32], word: u32) -> u32
     ensures { result ≡ flags_of rules.now word }
 {
-    let mut all: u32 = 0;
-    let mut at: usize = 0;
-    while at + 2 < rules.len() {
-        all = all | flags_given(word, rules[at], rules[at + 1], rules[at + 2]);
-        at = at + NUMBERS_IN_RULE;
-    }
-    all
+    rows_of(rules).iter().fold(0, |all, [mask, wanted, flags]| {
+        all | flags_given(word, *mask, *wanted, *flags)
+    })
 }

@@ -1,2 +1,2 @@
 pub mod Masks
-pub mod Sieve
+pub mod Free

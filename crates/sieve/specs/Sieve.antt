@@ -1,7 +1,8 @@
 -- The sieve of a rule table: the bits that all its rows look at, and which slots no row wants.
-use Rattle.std.specs.Prelude.{ℕ, ◌*◌, ◌/◌, ◌%◌, ◌≡◌, List, [], ◌∷◌, Bool, not, eqb, get_or, set, replicate}
+use Rattle.std.specs.Prelude.{ℕ, ◌*◌, ◌/◌, ◌%◌, ◌≡◌, List, [], ◌∷◌, Bool, true, false, get_or, set, replicate}
 use Rattle.std.specs.Int.Bits.{bit_and}
 use Rattle.rules.specs.Rules.{Rule, rules_of}
+use Rattle.sieve.specs.declared.Sieve.{Sieve}
 
 -- the bits of a mask that some rows look at, too
 unfoldable pub shared_by : ℕ → List Rule → ℕ
@@ -17,18 +18,18 @@ abbrev pub slot_of : ℕ → ℕ → ℕ
 slot_of mask number = bit_and number mask * 2654435769 / 67108864 % 64
 
 -- some slots without those of the numbers that some rows want
-unfoldable pub taken_by : ℕ → List ℕ → List Rule → List ℕ
+unfoldable pub taken_by : ℕ → List Bool → List Rule → List Bool
 taken_by mask slots [] = slots
-taken_by mask slots (r ∷ rs) = taken_by mask (set slots (slot_of mask r.wanted) 0) rs
+taken_by mask slots (r ∷ rs) = taken_by mask (set slots (slot_of mask r.wanted) false) rs
 
--- the slots of a table: 1 where one is free
-abbrev pub slots_of : ℕ → List ℕ → List ℕ
-slots_of mask rules = taken_by mask (replicate 64 1) (rules_of rules)
+-- the slots of a table: which are free
+abbrev pub slots_of : ℕ → List ℕ → List Bool
+slots_of mask rules = taken_by mask (replicate 64 true) (rules_of rules)
 
 -- is a word's slot free?
-abbrev pub is_free : ℕ → List ℕ → ℕ → Bool
-is_free mask slots word = not (eqb (get_or slots (slot_of mask word) 0) 0)
+abbrev pub is_free : Sieve → ℕ → Bool
+is_free sieve word = get_or sieve.slots (slot_of sieve.mask word) false
 
--- both are of this table
-abbrev pub Sifts : List ℕ → ℕ → List ℕ → Type 0
-Sifts rules mask slots = (mask ≡ shared_mask rules) × (slots ≡ slots_of mask rules)
+-- the sieve is of this table
+abbrev pub Sifts : List ℕ → Sieve → Type 0
+Sifts rules sieve = (sieve.mask ≡ shared_mask rules) × (sieve.slots ≡ slots_of sieve.mask rules)

@@ -3,28 +3,47 @@
 #![tactic(auto)]
 
 ghost use Rattle.std.specs.Prelude.{◌≡◌, ◌<◌};
-ghost use Rattle.sieve.specs.Sieve.{shared_mask, slot_of, slots_of, is_free};
-
-use rules::NUMBERS_IN_RULE;
+ghost use Rattle.sieve.specs.Sieve.{shared_mask, slot_of, slots_of, is_free, Sifts};
 
 // Numbers under the mask are spread over so many slots, by the highest bits of a product with 2^32 over the golden ratio.
-pub const SLOTS: usize = 64;
+const SLOTS: usize = 64;
 
 const SPREAD: u64 = 2654435769;
 
-const EVERY_BIT: u32 = 4294967295;
+// The bits that all rows of a table look at, and which slots are free.
+#[derive(Drop)]
+pub struct Sieve {
+    mask: u32,
+    slots: [bool; SLOTS],
+}
+
+impl Sieve {
+    // The sieve of a table.
+    pub fn of(rules: &[u32]) -> Sieve
+        ensures { Sifts rules.now result }
+    {
+        let mask = shared_mask(rules);
+        Sieve {
+            mask,
+            slots: slots_of(rules, mask),
+        }
+    }
+
+    // Whether a word's slot is free. Then no row applies to it.
+    pub fn is_free(&self, word: u32) -> bool
+        ensures { result ≡ is_free self.now word }
+    {
+        self.slots[slot_of(word, self.mask)]
+    }
+}
 
 // The bits that all rows look at.
-pub fn shared_mask(rules: &[u32]) -> u32
+fn shared_mask(rules: &[u32]) -> u32
     ensures { result ≡ shared_mask rules.now }
 {
-    let mut mask = EVERY_BIT;
-    let mut at: usize = 0;
-    while at + 2 < rules.len() {
-        mask = mask & rules[at];
-        at = at + NUMBERS_IN_RULE;
-    }
-    mask
+    rules::rows_of(rules)
+        .iter()
+        .fold(u32::MAX, |shared, [mask, _, _]| shared & mask)
 }
 
 // The slot of a number, by its bits under a mask.
@@ -35,24 +54,13 @@ fn slot_of(number: u32, mask: u32) -> usize
     (shared * SPREAD / 67108864 % 64) as usize
 }
 
-// Which slots are free: 0 where a row's wanted number has one, else 1.
-pub fn slots_of(rules: &[u32], mask: u32) -> [u8; SLOTS]
+// Which slots are free: those that no row's wanted number has.
+fn slots_of(rules: &[u32], mask: u32) -> [bool; SLOTS]
     ensures { result ≡ slots_of mask rules.now }
 {
-    let mut slots = [1u8; SLOTS];
-    let mut at: usize = 0;
-    while at + 2 < rules.len() {
-        let slot = slot_of(rules[at + 1], mask);
-        slots[slot] = 0;
-        at = at + NUMBERS_IN_RULE;
+    let mut slots = [true; SLOTS];
+    for [_, wanted, _] in rules::rows_of(rules) {
+        slots[slot_of(*wanted, mask)] = false;
     }
     slots
-}
-
-// Whether a word's slot is free. Then no row applies to it.
-pub fn is_free(mask: u32, slots: &[u8; SLOTS], word: u32) -> bool
-    ensures { result ≡ is_free mask slots.now word }
-{
-    let slot = slot_of(word, mask);
-    slots[slot] != 0
 }

@@ -1,19 +1,13 @@
 -- `shared_mask` gives the bits that all rows look at.
--- The loop's invariant: the bits so far, with the rows still to come, are the table's. Assumes nothing.
-use mathlib.Core.Path.{sym, ◌∙◌}
-use native.Mathlib.Omega.{arith}
-use Rattle.rules.proofs.Rows.{rows_step, rows_end}
-use Rattle.sieve.proofs.Sieve.{shared_row, shared_end}
+-- The fold over the rows is that over the definition's. Assumes nothing.
+use Rattle.std.proofs.Common.{rules, ◌≡◌, ◌∙◌, ap, fold, bit_and}
+use Rattle.rules.specs.Rules.{row}
+use Rattle.sieve.specs.Sieve.{shared_by}
+use Rattle.sieve.proofs.Free.{fold_shared}
 use Rattle.sieve.proofs.shared_mask.Goals as goal
-
-pub loop-at-preserved : goal.loop-at-preserved
-loop-at-preserved c =
-    let l = c.loop-at in
-    let rules = c.args.rules.now in
-    (omega arith, sym (shared_row l.mask (rows_step rules l.at (omega arith))) ∙ l.invariant.1)
 
 pub returns : goal.returns
 returns c =
-    let l = c.loop-at in
-    let rules = c.args.rules.now in
-    sym (shared_end l.mask (rows_end rules l.at (omega arith))) ∙ l.invariant.1
+    let rows = c.rows_of.result.now in
+    let folded : c.fold.result ≡ fold (λ shared numbers. bit_and shared (row numbers).mask) 4294967295 rows = search rules in
+    folded ∙ fold_shared 4294967295 rows ∙ ap (shared_by 4294967295) c.rows_of.ensures.rows

@@ -26,21 +26,21 @@ pub returns-then-word-eq-NO_WORD-clause-result_after : goal.returns-then-word-eq
 returns-then-word-eq-NO_WORD-clause-result_after c =
     let a = c.args in
     rw (c.stop_ended.ensures, c.ending_of.ensures)
-    (finds_nothing a.room a.rows a.spans.now (ended_stops a.level a.parent a.offset a.bytes.now a.memory.word a.memory.flags c.if-word-eq-NO_WORD.true))
+    (finds_nothing a.room a.rows a.spans.now (ended_stops a.level a.here.parent a.here.at a.bytes.now a.memory.word a.memory.flags c.if-word-eq-NO_WORD.true))
 
 pub returns-then-declared-eq0-clause-result_after : goal.returns-then-declared-eq0-clause-result_after
 returns-then-declared-eq0-clause-result_after c =
     let a = c.args in
     let size = c.size_of-size in
     rw c.nothing_at.ensures
-    (finds_none a.level a.parent a.offset a.bytes.now a.memory.word a.memory.flags size.result c.if-word-eq-NO_WORD.false size.ensures.value
+    (finds_none a.level a.here.parent a.here.at a.bytes.now a.memory.word a.memory.flags size.result c.if-word-eq-NO_WORD.false size.ensures.value
     a.room a.rows a.spans.now (sym c.declared_in-declared.ensures.0 ∙ c.if-declared-eq0.true))
 
 pub returns-then-room-rows-clause-result_after : goal.returns-then-room-rows-clause-result_after
 returns-then-room-rows-clause-result_after c =
     let a = c.args in
     let some = some a.bytes.now a.memory.word a.memory.flags _ c.declared_in-declared.ensures.0 c.if-declared-eq0.false in
-    finds_no_room a.room a.rows a.spans.now (is_record a.level a.parent a.offset a.bytes.now a.memory.word a.memory.flags some) (omega arith)
+    finds_no_room a.room a.rows a.spans.now (is_record a.level a.here.parent a.here.at a.bytes.now a.memory.word a.memory.flags some) (omega arith)
 
 pub summary_of-summary-requires : goal.summary_of-summary-requires
 summary_of-summary-requires c =
@@ -71,7 +71,7 @@ returns c =
     let bounds = size.measured there in
     record {
       result_after =
-          finds_record a.level a.parent a.offset a.bytes.now a.memory.word a.memory.flags some a.room a.rows a.spans.now (omega arith)
+          finds_record a.level a.here.parent a.here.at a.bytes.now a.memory.word a.memory.flags some a.room a.rows a.spans.now (omega arith)
           c.put.ensures c.span_of-span.ensures c.summary_of-summary.ensures (says a.bytes.now a.memory.word a.memory.flags _ is more) size.value c.is_box.ensures;
       row_bounds = (omega arith, c.declared_in-declared.ensures.1, omega (arith, bounds.least), bounds.most);
     }
