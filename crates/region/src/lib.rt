@@ -10,7 +10,9 @@ use header_judge::version::bit_of;
 use region_rows::TOP;
 use region_try::Cut;
 use region_try::stop::{Stop, stop_number};
+use region_walk::bounds::Bounds;
 use region_walk::{DEEPEST, Walked};
+use rules::columns::Columns;
 
 // What a listing answers: 'not a CPER' that of a CPER's regions, a bad header or type that of one region.
 #[derive(Clone, Copy)]
@@ -106,14 +108,12 @@ pub fn type_of(answer: Answer) -> u32
 pub fn listing_told(listing: Listing) -> [u64; 5]
     ensures { result ≡ listing_told listing }
 {
-    let answer = listing.answer;
-    let stop = listing.stop;
     [
         listing.rows as u64,
         listing.tries,
-        type_of(answer) as u64,
+        type_of(listing.answer) as u64,
         bit_of(listing.whole) as u64,
-        stop_number(stop) as u64,
+        stop_number(listing.stop) as u64,
     ]
 }
 
@@ -122,7 +122,7 @@ pub fn refused(answer: Answer) -> Listing
     ensures { result ≡ refusal answer }
 {
     Listing {
-        answer: answer,
+        answer,
         rows: 0,
         tries: 0,
         whole: false,
@@ -134,15 +134,14 @@ pub fn refused(answer: Answer) -> Listing
 pub fn listing_at(end: Walked) -> Listing
     ensures { result ≡ listing_at end }
 {
-    let cut = end.cut;
-    let stop = end.stop;
-    let answer = answer_of(cut, end.rows, stop, end.bad_type);
+    let counts = end.counts;
+    let answer = answer_of(counts.cut, counts.rows, end.stop, end.bad_type);
     Listing {
-        answer: answer,
-        rows: end.rows,
-        tries: end.tries,
-        whole: (number_of(answer) == answers::DONE) & end.whole,
-        stop: stop,
+        answer,
+        rows: counts.rows,
+        tries: counts.tries,
+        whole: (number_of(answer) == answers::DONE) & counts.whole,
+        stop: end.stop,
     }
 }
 
@@ -154,12 +153,9 @@ pub fn list(region: &[u8], rules: &[u32], limit: u64, spans: &mut [u32]) -> List
     if MOST_BYTES < region.len() {
         return refused(Answer::TooLong);
     }
-    if !rules::valid(rules) {
+    let Some(table) = Columns::of(rules) else {
         return refused(Answer::BadRules);
-    }
-    let columns = rules::columns::columns_of(rules);
-    let bounds = region_walk::bounds_of(limit, rules, spans);
-    listing_at(region_walk::region_walk(
-        region, &columns, &bounds, 0, DEEPEST, 0, true, TOP, 0, spans,
-    ))
+    };
+    let bounds = Bounds::new(table, limit, spans);
+    listing_at(region_walk::region_walk(region, &bounds, 0, DEEPEST, 0, true, TOP, 0, spans))
 }

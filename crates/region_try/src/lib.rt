@@ -14,7 +14,7 @@ use region_rows::Span;
 use stop::{Stop, stop_ended};
 
 // What cut a walk off, if anything did.
-#[derive(Clone, Copy)]
+#[derive(Clone, Copy, Debug, PartialEq, Eq)]
 pub enum Cut {
     Going,
     Full,
