@@ -13,7 +13,7 @@ use Rattle.region_try.specs.declared.Cut.{Cut}
 use Rattle.region_try.specs.declared.Cut.TheVariants.{Going}
 use Rattle.region_try.specs.declared.State.{State}
 use Rattle.region_try.proofs.Runs.{going_or_not, run_none, run_append, run_cut, run_rows}
-use Rattle.region_walk.specs.Steps.{going, region_run}
+use Rattle.region_walk.specs.Steps.{counts_of, going, region_run}
 use Rattle.region_walk.specs.declared.bounds.Bounds.{Bounds}
 use Rattle.region_walk.specs.declared.Walked.{Walked}
 use Rattle.region_walk.proofs.Ends.{end_counts}
@@ -76,7 +76,7 @@ module _ (cper id : List ℕ) (b : Bounds) where
     -- the counts of the walk of its region
     pub walk_region : is_opened cper id k ≡ true → {bytes : List ℕ} → bytes ≡ (region_of cper k).bytes
         → {t : List ℕ} {w : Walked} → ◌≡◌ {A = List ℕ × Walked} (t, w) (region_run b deepest bytes (k.offset + section_header) top m)
-        → ◌≡◌ {A = Walk} (t, w.counts) (walk (k ∷ []) m)
+        → ◌≡◌ {A = Walk} (t, counts_of w) (walk (k ∷ []) m)
     walk_region e p f = end_counts _ _ (f ∙ ap (λ (bytes : List ℕ). region_run b deepest bytes (k.offset + section_header) top m) p) ∙ sym (walk_opened [] e ∙ walk_none _)
 
     -- the others follow where one section's walk ends

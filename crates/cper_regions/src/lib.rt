@@ -61,7 +61,7 @@ fn walk_section(
         tries,
         spans,
     );
-    region.counts
+    region.counts()
 }
 
 // Walks the regions of all kept sections, one after the other.
@@ -116,10 +116,6 @@ pub fn list_cper(
         return region::refused(Answer::NotCper);
     }
     let bounds = Bounds::new(table, limit, spans);
-    let counts = walk_sections(cper, record_id, &bounds, spans);
-    region::listing_at(Walked {
-        counts,
-        stop: Stop::Untold,
-        bad_type: 0,
-    })
+    let end = walk_sections(cper, record_id, &bounds, spans);
+    region::listing_at(Walked::untold(end))
 }

@@ -116,9 +116,8 @@ refusal answer = record { answer = answer; rows = 0; tries = 0; whole = false; s
 -- the listing at the end of a walk
 abbrev pub listing_at : Walked → Listing
 listing_at end =
-    let n = end.counts in
-    let answer = answer_of n.cut n.rows end.stop end.bad_type in
-    record { answer = answer; rows = n.rows; tries = n.tries; whole = eqb (number_of answer) 0 && n.whole; stop = end.stop }
+    let answer = answer_of end.cut end.rows end.stop end.bad_type in
+    record { answer = answer; rows = end.rows; tries = end.tries; whole = eqb (number_of answer) 0 && end.whole; stop = end.stop }
 
 -- the table with the rows laid at its start, and the listing
 abbrev pub tries_showing : Standing → List Try → List ℕ → Shown → List ℕ × Listing

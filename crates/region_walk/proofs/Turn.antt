@@ -33,7 +33,7 @@ use Rattle.region_try.proofs.Tries.{records_end, records_first, records_stop, re
 use Rattle.region_try.proofs.Stops.{stands_hit, past_within, past_box}
 use Rattle.region_try.proofs.Whole.{keeps_stop, keeps_plain, keeps_box}
 use Rattle.region_try.proofs.Runs.{spent_going, full_going, step_spent, step_made, run_none, run_cons, run_append, run_cut, run_rows}
-use Rattle.region_walk.specs.Steps.{walk_end, end_where, stands_in, region_end}
+use Rattle.region_walk.specs.Steps.{walk_end, counts_of, end_where, stands_in, region_end}
 use Rattle.region_walk.specs.declared.bounds.Bounds.{Bounds}
 use Rattle.region_walk.specs.declared.Walked.{Walked}
 use Rattle.region_walk.proofs.Ends.{cut_off, end_cut, ends_none, ends_cut, ends_stop, end_counts}
@@ -67,7 +67,7 @@ held_fits bs base at k h g =
 -- the counts of its child's walk are those of the tries inside it
 pub child_counts : (rules : List ℕ) (limit room levels : ℕ) (held : List ℕ) (base size row : ℕ) (m : Walk) → 0 < levels → size ≤ length held
     → {t : List ℕ} {w : Walked} → ◌≡◌ {A = List ℕ × Walked} (t, w) (region_end limit room (levels - 1) (region_tries rules (levels - 1) (drop size held) (base + size) row (row + 1)) m)
-    → ◌≡◌ {A = Walk} (t, w.counts) (run limit room (box_tries rules levels held base size row) m)
+    → ◌≡◌ {A = Walk} (t, counts_of w) (run limit room (box_tries rules levels held base size row) m)
 child_counts rules limit room levels held base size row m p h e =
     rw (box_open rules levels held base size row p h) (end_counts _ _ e)
 

@@ -7,6 +7,8 @@ use Rattle.region_try.specs.Steps.{Walk, state, run, box_whole}
 use Rattle.region_try.specs.declared.Cut.{Cut}
 use Rattle.region_try.specs.declared.Cut.TheVariants.{Going}
 use Rattle.region_try.specs.declared.stop.Stop.{Stop}
+use Rattle.region_try.specs.declared.stop.Stop.TheVariants.{Untold}
+use Rattle.region_try.specs.declared.State.{State}
 use Rattle.region_walk.specs.declared.bounds.Bounds.{Bounds}
 use Rattle.region_walk.specs.declared.Walked.{Walked}
 
@@ -23,11 +25,19 @@ going t rows tries whole = (t, state rows tries whole Going)
 -- the end of a region's walk: the counts, why the region stops, and its bad type
 abbrev pub walk_end : ℕ → ℕ → Bool → Cut → Stop → ℕ → Walked
 walk_end rows tries whole cut stop type =
-    record { counts = state rows tries whole cut; stop = stop; bad_type = type }
+    record { rows = rows; tries = tries; whole = whole; cut = cut; stop = stop; bad_type = type }
+
+-- that of a walk of which no stop is told
+abbrev pub untold : State → Walked
+untold s = walk_end s.rows s.tries s.whole s.cut Untold 0
+
+-- the counts alone
+abbrev pub counts_of : Walked → State
+counts_of w = state w.rows w.tries w.whole w.cut
 
 -- the table and the end of a walk, of whose stop this is told
 abbrev pub end_telling : Standing → Walk → List ℕ × Walked
-end_telling told m = (m.0, record { counts = m.1; stop = stop_of told; bad_type = bad_type_of told })
+end_telling told m = (m.0, walk_end m.1.rows m.1.tries m.1.whole m.1.cut (stop_of told) (bad_type_of told))
 
 -- the same where this stands, of which a walk that is cut off tells nothing
 abbrev pub end_where : Standing → Walk → List ℕ × Walked

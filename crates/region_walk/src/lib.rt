@@ -3,7 +3,7 @@
 #![tactic(auto)]
 
 ghost use Rattle.std.specs.Prelude.{◌≡◌, ◌<◌};
-ghost use Rattle.region_walk.specs.Steps.{Walkable, walk_end, going, region_run, box_run};
+ghost use Rattle.region_walk.specs.Steps.{Walkable, walk_end, untold, counts_of, going, region_run, box_run};
 
 pub mod bounds;
 
@@ -15,28 +15,57 @@ use region_try::{Cut, Found, State};
 // How deep Boxes are opened.
 pub const DEEPEST: u32 = 4;
 
-// How a region's walk ends: the counts, and why the region stops, with its bad type, where nothing cuts the walk off.
+// How a region's walk ends: the counts, and why the region stops, with its bad type, where nothing cuts the walk off. The counts are no
+// struct in it, which would be copied with its padding: a fiftieth more instructions for the thinnest Boxes.
 #[derive(Clone, Copy)]
 pub struct Walked {
-    pub counts: State,
+    pub rows: u32,
+    pub tries: u64,
+    pub whole: bool,
+    pub cut: Cut,
     pub stop: Stop,
     pub bad_type: u32,
 }
 
-// In one line, where the nested literals take nine at each end of a walk.
+// One line at each end of a walk, where a literal takes eight.
 pub fn walk_end(rows: u32, tries: u64, whole: bool, cut: Cut, stop: Stop, bad_type: u32) -> Walked
     ensures { result ≡ walk_end rows tries whole cut stop bad_type }
 {
-    let counts = State {
+    Walked {
         rows,
         tries,
         whole,
         cut,
-    };
-    Walked {
-        counts,
         stop,
         bad_type,
+    }
+}
+
+impl Walked {
+    // The end of a walk of which no stop is told.
+    pub fn untold(counts: State) -> Walked
+        ensures { result ≡ untold counts }
+    {
+        walk_end(
+            counts.rows,
+            counts.tries,
+            counts.whole,
+            counts.cut,
+            Stop::Untold,
+            0,
+        )
+    }
+
+    // The counts alone.
+    pub fn counts(self) -> State
+        ensures { result ≡ counts_of self }
+    {
+        State {
+            rows: self.rows,
+            tries: self.tries,
+            whole: self.whole,
+            cut: self.cut,
+        }
     }
 }
 
@@ -110,11 +139,7 @@ pub fn region_walk(
                         spans,
                     );
                     if inner.cut != Cut::Going {
-                        return Walked {
-                            counts: inner,
-                            stop: Stop::Untold,
-                            bad_type: 0,
-                        };
+                        return Walked::untold(inner);
                     }
                     rows = inner.rows;
                     tries = inner.tries;
@@ -173,5 +198,5 @@ fn box_walk(
         tries,
         spans,
     );
-    child.counts
+    child.counts()
 }

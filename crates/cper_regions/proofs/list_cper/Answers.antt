@@ -33,8 +33,8 @@ returns-then-not-is_cper-clause-result_after c =
 
 -- ---- the work
 
-pub walk_sections-counts-requires : goal.walk_sections-counts-requires
-walk_sections-counts-requires c =
+pub walk_sections-end-requires : goal.walk_sections-end-requires
+walk_sections-end-requires c =
     let a = c.args in
     let is : is_cper a.cper.now ≡ true = sym c.is_cper.ensures ∙ c.if-not-is_cper.false in
     let made = c.new-bounds.ensures in
@@ -47,9 +47,9 @@ returns c =
     let good = cond_some (valid_of a.rules.now) a.rules.now c.in-Some.table (sym c.in-Some.ensures) in
     let is : is_cper a.cper.now ≡ true = sym c.is_cper.ensures ∙ c.if-not-is_cper.false in
     let made = c.new-bounds.ensures in
-    let y = c.walk_sections-counts in
+    let y = c.walk_sections-end in
     let f = with_fit a.rules.now a.cper.now a.record_id.now a.limit a.spans.now
-    (rw c.listing_at.ensures
+    (rw (c.listing_at.ensures, c.untold.ensures)
     (listed_run a.rules.now a.cper.now a.record_id.now a.limit a.spans.now (omega arith) good.0 is (y.new.spans, y.result)
     (rw (made.rules_are, made.limit_is, made.room_is, ← good.1) at y.ensures))) in
     record { result_after = f.0; width_in_bounds = f.1 }

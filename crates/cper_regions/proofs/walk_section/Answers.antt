@@ -18,5 +18,6 @@ pub returns : goal.returns
 returns c =
     let a = c.args in
     let opened : is_opened a.cper.now a.record_id.now a.section ≡ true = sym c.is_opened.ensures ∙ c.if-not-is_opened.false in
+    rw c.counts.ensures
     (walk_region a.cper.now a.record_id.now a.bounds.now a.section _ opened
     (region_part a.cper.now a.section (opened_long a.cper.now a.record_id.now a.section opened)) c.region_walk-region.ensures)

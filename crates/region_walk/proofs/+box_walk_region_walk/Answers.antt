@@ -37,7 +37,7 @@ box_walk-returns-then-held-size t c =
 pub box_walk-returns : goal.box_walk-returns
 box_walk-returns t c =
     let a = c.args in
-    rw (box_opens a.whole a.levels a.size (length a.held.now) (omega arith) c.requires.0.deep (omega arith))
+    rw (c.counts.ensures, box_opens a.whole a.levels a.size (length a.held.now) (omega arith) c.requires.0.deep (omega arith))
     (child_counts a.bounds.now.rules a.bounds.now.limit a.bounds.now.room a.levels a.held.now a.base a.size a.row
     (going a.spans.now (a.row + 1) a.tries a.whole) (omega arith) (omega arith)
     (rw (tail_part a.held.now a.size) at c.region_walk-child.ensures))
@@ -135,7 +135,8 @@ pub region_walk-returns-then-ne : goal.region_walk-returns-then-ne
 region_walk-returns-then-ne t c =
     let l = c.loop-at in
     let a = goal.at.region_walk-returns-then-ne t c in
-    sym (l.invariant.ends ∙ box_cut (turn t a.In-Row (known t a.Joined-word-last)) l.whole refl c.if-boxed.true c.box_walk-inner.ensures (λ e. search rules))
+    rw c.untold.ensures
+    (sym (l.invariant.ends ∙ box_cut (turn t a.In-Row (known t a.Joined-word-last)) l.whole refl c.if-boxed.true c.box_walk-inner.ensures (λ e. search rules)))
 
 pub region_walk-loop-at-preserved : goal.region_walk-loop-at-preserved
 region_walk-loop-at-preserved t c =
