@@ -1,4 +1,5 @@
 // A span row (document 01, 'The nested listing'; document 02, C-17) in a lent table: its numbers, written and read, and the rows that a table has room for.
+// The table is numbers and no slice of `Span`, since C lends it (include/crashlog.h).
 #![tactic(auto)]
 
 ghost use Rattle.std.specs.Prelude.{◌≡◌, min, ◌+◌, ◌*◌, ◌≤◌, length};

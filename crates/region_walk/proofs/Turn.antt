@@ -18,7 +18,7 @@ use Rattle.region_rows.specs.declared.Span.{Span}
 use Rattle.region_try.specs.Stops.{Standing, no_byte}
 use Rattle.region_try.specs.Tries.{Try, hit, try_of, deepest, rows_found, within, records, box_tries, region_tries}
 use Rattle.region_try.specs.Whole.{clean_stop, keeps_whole}
-use Rattle.region_try.specs.Steps.{Walk, state, try_at, found, counted, step, run, box_whole, RowBounds}
+use Rattle.region_try.specs.Steps.{Walk, state, try_at, found, counted, step, run, box_whole}
 use Rattle.region_try.specs.declared.Cut.{Cut}
 use Rattle.region_try.specs.declared.Cut.TheVariants.{Going, Full, Spent}
 use Rattle.region_try.specs.declared.stop.Stop.{Stop}
@@ -208,7 +208,6 @@ module _ (p : Place) where
     pub within : at < length p.bytes
     pub due : tries < p.limit
     pub gave : ◌≡◌ {A = List ℕ × Found} (t₁, f) (found p.room rows (try_from at) t)
-    pub bounded : RowBounds f
 
 module _ {p : Place} {at : ℕ} {t t₁ : List ℕ} {rows tries : ℕ} {f : Found} (y : Tried p at t t₁ rows tries f) (whole : Bool) where
   made : step p.limit p.room (try_from p at) (t, state rows tries whole Going) ≡ (t₁, counted rows (tries + 1) (whole && keeps_whole (try_from p at)) f)
@@ -241,9 +240,6 @@ module _ {p : Place} {at : ℕ} {t t₁ : List ℕ} {rows tries : ℕ} {f : Foun
 
     pub row_free : rows < p.room
     row_free = seen.free
-
-    pub row_bounds : (0 < d) × (d ≤ 524280) × (0 < z) × (z ≤ 536)
-    row_bounds = rw e at y.bounded
 
     pub row_held : at + h ≤ length p.bytes
     row_held =
@@ -312,7 +308,7 @@ module _ (p : Place) (at word flags : ℕ) where
   pub tried_at : {t t₁ : List ℕ} {rows tries : ℕ} {f : Found} → p.levels ≤ deepest → at < length p.bytes → tries < p.limit
       → word ≡ word_of part → Known p.rules word flags
       → ◌≡◌ {A = List ℕ × Found} (t₁, f) (found p.room rows (try_at (deepest - p.levels) p.parent (p.base + at) part word flags) t)
-      → RowBounds f → Tried p at t t₁ rows tries f
-  tried_at deep within due is_word is_flags gave bounded =
+      → Tried p at t t₁ rows tries f
+  tried_at deep within due is_word is_flags gave =
       let h : head_with part word flags ≡ head_of p.rules part = head_known p.rules part word flags is_word is_flags in
-      record { deep = deep; within = within; due = due; gave = rw (h, tail_part) at gave; bounded = bounded }
+      record { deep = deep; within = within; due = due; gave = rw (h, tail_part) at gave }

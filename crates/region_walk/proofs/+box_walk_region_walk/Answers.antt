@@ -88,7 +88,7 @@ module _ (t : ℕ) (c : region_walk-In-Row t) (flags : Known c.args.bounds.now.r
   turn : Tried place c.loop-at.at c.loop-at.spans c.try_at-tried.new.spans c.loop-at.rows c.loop-at.tries record_found
   turn =
       tried_at place c.loop-at.at c.word_of-word.result c.if-word-last.known c.requires.deep c.loop-at-test.true c.if-bounds-tries.false
-      c.word_of-word.ensures flags c.in-Row.ensures.result_after c.in-Row.ensures.row_bounds
+      c.word_of-word.ensures flags c.in-Row.ensures.result_after
 
   free : c.loop-at.rows < place.room
   free = row_free turn c.loop-at.whole refl
@@ -102,7 +102,7 @@ region_walk-returns-in-Nothing t c =
     let l = c.loop-at in
     let p = placed a.bytes.now a.bounds.now a.base a.levels a.parent in
     let flags = known t (goal.at.region_walk-returns-in-Nothing t c).Joined-word-last in
-    let turn = tried_at p l.at c.word_of-word.result c.if-word-last.known c.requires.deep c.loop-at-test.true c.if-bounds-tries.false c.word_of-word.ensures flags c.in-Nothing.ensures.result_after c.in-Nothing.ensures.row_bounds in
+    let turn = tried_at p l.at c.word_of-word.result c.if-word-last.known c.requires.deep c.loop-at-test.true c.if-bounds-tries.false c.word_of-word.ensures flags c.in-Nothing.ensures.result_after in
     rw (c.walk_end-in-Nothing.ensures, c.clean_stop-clean.ensures) (sym (l.invariant.ends ∙ stop_turn turn l.whole refl))
 
 pub region_walk-returns-in-NoRoom : goal.region_walk-returns-in-NoRoom
@@ -111,7 +111,7 @@ region_walk-returns-in-NoRoom t c =
     let l = c.loop-at in
     let p = placed a.bytes.now a.bounds.now a.base a.levels a.parent in
     let flags = known t (goal.at.region_walk-returns-in-NoRoom t c).Joined-word-last in
-    let turn = tried_at p l.at c.word_of-word.result c.if-word-last.known c.requires.deep c.loop-at-test.true c.if-bounds-tries.false c.word_of-word.ensures flags c.in-NoRoom.ensures.result_after c.in-NoRoom.ensures.row_bounds in
+    let turn = tried_at p l.at c.word_of-word.result c.if-word-last.known c.requires.deep c.loop-at-test.true c.if-bounds-tries.false c.word_of-word.ensures flags c.in-NoRoom.ensures.result_after in
     rw c.walk_end-in-NoRoom.ensures (sym (l.invariant.ends ∙ full_turn turn l.whole refl))
 
 pub region_walk-overflow_add-rows : goal.region_walk-overflow_add-rows
