@@ -13,7 +13,8 @@ use Rattle.region_try.specs.declared.Cut.{Cut}
 use Rattle.region_try.specs.declared.Cut.TheVariants.{Going}
 use Rattle.region_try.specs.declared.State.{State}
 use Rattle.region_try.proofs.Runs.{going_or_not, run_none, run_append, run_cut, run_rows}
-use Rattle.region_walk.specs.Steps.{limit_in, room_in, table_in, going, region_run}
+use Rattle.region_walk.specs.Steps.{counts_of, going, region_run}
+use Rattle.region_walk.specs.declared.bounds.Bounds.{Bounds}
 use Rattle.region_walk.specs.declared.Walked.{Walked}
 use Rattle.region_walk.proofs.Ends.{end_counts}
 use Rattle.cper_sections.specs.declared.kept.Section.{Section}
@@ -51,16 +52,16 @@ module _ (limit room : ℕ) (rules : List ℕ) where
 
 -- ---- sections
 
-module _ (cper id rules bs : List ℕ) where
+module _ (cper id : List ℕ) (b : Bounds) where
   abbrev walk : List Section → Walk → Walk
-  walk ks m = sections_run cper id rules bs ks m
+  walk ks m = sections_run cper id b ks m
 
   pub walk_none : (m : Walk) → walk [] m ≡ m
   unfolding regions_in
-  walk_none m = joined_none (limit_in bs) (room_in bs) (table_in rules bs) m
+  walk_none m = joined_none b.limit b.room b.rules m
 
   walk_cut : (ks : List Section) (m : Walk) → (m.1.cut ≡ Going → ⊥) → walk ks m ≡ m
-  walk_cut ks m cut = run_cut (limit_in bs) (room_in bs) (joined_tries (table_in rules bs) (regions_in cper id ks) m.1.rows) m cut
+  walk_cut ks m cut = run_cut b.limit b.room (joined_tries b.rules (regions_in cper id ks) m.1.rows) m cut
 
   module _ (k : Section) (m : Walk) where
     pub walk_unopened : (ks : List Section) → is_opened cper id k ≡ false → walk (k ∷ ks) m ≡ walk ks m
@@ -68,15 +69,15 @@ module _ (cper id rules bs : List ℕ) where
     walk_unopened ks e = rw e
 
     walk_opened : (ks : List Section) → is_opened cper id k ≡ true
-        → walk (k ∷ ks) m ≡ walk ks (alone (limit_in bs) (room_in bs) (table_in rules bs) (region_of cper k) m)
+        → walk (k ∷ ks) m ≡ walk ks (alone b.limit b.room b.rules (region_of cper k) m)
     unfolding regions_in
-    walk_opened ks e = rw e (joined_cons (limit_in bs) (room_in bs) (table_in rules bs) (region_of cper k) (regions_in cper id ks) m)
+    walk_opened ks e = rw e (joined_cons b.limit b.room b.rules (region_of cper k) (regions_in cper id ks) m)
 
     -- the counts of the walk of its region
     pub walk_region : is_opened cper id k ≡ true → {bytes : List ℕ} → bytes ≡ (region_of cper k).bytes
-        → {t : List ℕ} {w : Walked} → ◌≡◌ {A = List ℕ × Walked} (t, w) (region_run rules bs deepest bytes (k.offset + section_header) top m)
-        → ◌≡◌ {A = Walk} (t, state w.rows w.tries w.whole w.cut) (walk (k ∷ []) m)
-    walk_region e p f = end_counts _ _ (f ∙ ap (λ (bytes : List ℕ). region_run rules bs deepest bytes (k.offset + section_header) top m) p) ∙ sym (walk_opened [] e ∙ walk_none _)
+        → {t : List ℕ} {w : Walked} → ◌≡◌ {A = List ℕ × Walked} (t, w) (region_run b deepest bytes (k.offset + section_header) top m)
+        → ◌≡◌ {A = Walk} (t, counts_of w) (walk (k ∷ []) m)
+    walk_region e p f = end_counts _ _ (f ∙ ap (λ (bytes : List ℕ). region_run b deepest bytes (k.offset + section_header) top m) p) ∙ sym (walk_opened [] e ∙ walk_none _)
 
     -- the others follow where one section's walk ends
     walk_cons : (ks : List Section) → walk (k ∷ ks) m ≡ walk ks (walk (k ∷ []) m)

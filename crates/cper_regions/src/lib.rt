@@ -18,8 +18,9 @@ use region::{Answer, Listing};
 use region_rows::TOP;
 use region_try::stop::Stop;
 use region_try::{Cut, State};
-use region_walk::{BOUNDS, DEEPEST, counts, walk_end};
-use rules::columns::NUMBERS;
+use region_walk::bounds::Bounds;
+use region_walk::{DEEPEST, Walked};
+use rules::columns::Columns;
 
 // The record identifier of a Crash Log, 8f87f311-c998-4d9e-a0c4-6065518c4f6d, as a file has it.
 pub const RECORD_ID_CRASHLOG: [u8; 16] =
@@ -30,24 +31,27 @@ fn walk_section(
     cper: &[u8],
     section: Section,
     record_id: &[u8; 16],
-    rules: &[u32; NUMBERS],
-    bounds: &[u64; BOUNDS],
+    bounds: &Bounds,
     rows: u32,
     tries: u64,
     whole: bool,
     spans: &mut [u32],
 ) -> State
-    requires { Kept cper.now section × Openable cper.now rules.now bounds.now spans.old }
-    ensures { (spans.new, result) ≡ sections_run cper.now record_id.now rules.now bounds.now (section ∷ []) (going spans.old rows tries whole) }
+    requires { Kept cper.now section × Openable cper.now bounds.now spans.old }
+    ensures { (spans.new, result) ≡ sections_run cper.now record_id.now bounds.now (section ∷ []) (going spans.old rows tries whole) }
 {
     if !is_opened(cper, record_id, section) {
-        return counts(rows, tries, whole, Cut::Going);
+        return State {
+            rows,
+            tries,
+            whole,
+            cut: Cut::Going,
+        };
     }
     let start = (section.offset as usize) + SECTION_HEADER_SIZE;
     let end = (section.offset as usize) + (section.size as usize);
     let region = region_walk::region_walk(
         &cper[start..end],
-        rules,
         bounds,
         start,
         DEEPEST,
@@ -57,20 +61,13 @@ fn walk_section(
         tries,
         spans,
     );
-    let cut = region.cut;
-    counts(region.rows, region.tries, region.whole, cut)
+    region.counts()
 }
 
 // Walks the regions of all kept sections, one after the other.
-fn walk_sections(
-    cper: &[u8],
-    record_id: &[u8; 16],
-    rules: &[u32; NUMBERS],
-    bounds: &[u64; BOUNDS],
-    spans: &mut [u32],
-) -> State
-    requires { (header_size ≤ length cper.now) × Openable cper.now rules.now bounds.now spans.old }
-    ensures { (spans.new, result) ≡ sections_run cper.now record_id.now rules.now bounds.now (kept_of cper.now) (going spans.old 0 0 true) }
+fn walk_sections(cper: &[u8], record_id: &[u8; 16], bounds: &Bounds, spans: &mut [u32]) -> State
+    requires { (header_size ≤ length cper.now) × Openable cper.now bounds.now spans.old }
+    ensures { (spans.new, result) ≡ sections_run cper.now record_id.now bounds.now (kept_of cper.now) (going spans.old 0 0 true) }
 {
     let count = cper_header::section_count(cper) as usize;
     let mut rows: u32 = 0;
@@ -80,17 +77,16 @@ fn walk_sections(
     loop {
         let next = next_kept(cper, index, count);
         let Next::Kept(section) = next else {
-            return counts(rows, tries, whole, Cut::Going);
+            return State {
+                rows,
+                tries,
+                whole,
+                cut: Cut::Going,
+            };
         };
-        let walked = walk_section(
-            cper, section, record_id, rules, bounds, rows, tries, whole, spans,
-        );
-        let cut = walked.cut;
-        match cut {
-            Cut::Going => {}
-            _ => {
-                return counts(walked.rows, walked.tries, walked.whole, cut);
-            }
+        let walked = walk_section(cper, section, record_id, bounds, rows, tries, whole, spans);
+        if walked.cut != Cut::Going {
+            return walked;
         }
         whole = walked.whole;
         tries = walked.tries;
@@ -113,15 +109,13 @@ pub fn list_cper(
     if MOST_BYTES < cper.len() {
         return region::refused(Answer::TooLong);
     }
-    if !rules::valid(rules) {
+    let Some(table) = Columns::of(rules) else {
         return region::refused(Answer::BadRules);
-    }
+    };
     if !cper_header::is_cper(cper) {
         return region::refused(Answer::NotCper);
     }
-    let columns = rules::columns::columns_of(rules);
-    let bounds = region_walk::bounds_of(limit, rules, spans);
-    let end = walk_sections(cper, record_id, &columns, &bounds, spans);
-    let cut = end.cut;
-    region::listing_at(walk_end(end.rows, end.tries, end.whole, cut, Stop::Untold, 0))
+    let bounds = Bounds::new(table, limit, spans);
+    let end = walk_sections(cper, record_id, &bounds, spans);
+    region::listing_at(Walked::untold(end))
 }

@@ -9,11 +9,13 @@ use answers::MOST_BYTES;
 use header_judge::version::bit_of;
 use region_rows::TOP;
 use region_try::Cut;
-use region_try::stop::{Stop, stop_number};
+use region_try::stop::Stop;
+use region_walk::bounds::Bounds;
 use region_walk::{DEEPEST, Walked};
+use rules::columns::Columns;
 
 // What a listing answers: 'not a CPER' that of a CPER's regions, a bad header or type that of one region.
-#[derive(Clone, Copy)]
+#[derive(Clone, Copy, Debug, PartialEq, Eq)]
 pub enum Answer {
     Done,
     TooLong,
@@ -41,14 +43,9 @@ fn answer_without(stop: Stop, bad_type: u32) -> Answer
     ensures { result ≡ answer_without stop bad_type }
 {
     match stop {
-        Stop::Untold => Answer::Empty,
-        Stop::EndOfInput => Answer::Empty,
-        Stop::ZeroWord => Answer::Empty,
-        Stop::DeadbeefWord => Answer::Empty,
-        Stop::FewBytes => Answer::Empty,
         Stop::BadHeader => Answer::BadHeader,
         Stop::BadType => Answer::BadType(bad_type),
-        Stop::SizeZero => Answer::Empty,
+        _ => Answer::Empty,
     }
 }
 
@@ -59,30 +56,34 @@ pub fn answer_of(cut: Cut, rows: u32, stop: Stop, bad_type: u32) -> Answer
     match cut {
         Cut::Full => Answer::SpansFull,
         Cut::Spent => Answer::TriesSpent,
-        Cut::Going => {
-            if rows == 0 {
-                return answer_without(stop, bad_type);
-            }
-            Answer::Done
-        }
+        Cut::Going if rows == 0 => answer_without(stop, bad_type),
+        Cut::Going => Answer::Done,
     }
 }
 
 // Document 01's number of an answer.
+impl From<Answer> for u32 {
+    ghost from_gives = { λ answer number. (number ≡ number_of answer) × (number < 9) };
+
+    fn from(answer: Answer) -> u32 {
+        match answer {
+            Answer::Done => answers::DONE,
+            Answer::TooLong => answers::TOO_LONG,
+            Answer::BadRules => answers::BAD_RULES,
+            Answer::NotCper => answers::NOT_CPER,
+            Answer::BadHeader => answers::BAD_HEADER,
+            Answer::BadType(_) => answers::BAD_TYPE,
+            Answer::Empty => answers::EMPTY,
+            Answer::SpansFull => answers::SPANS_FULL,
+            Answer::TriesSpent => answers::TRIES_SPENT,
+        }
+    }
+}
+
 pub fn number_of(answer: Answer) -> u32
     ensures { (result ≡ number_of answer) × (result < 9) }
 {
-    match answer {
-        Answer::Done => answers::DONE,
-        Answer::TooLong => answers::TOO_LONG,
-        Answer::BadRules => answers::BAD_RULES,
-        Answer::NotCper => answers::NOT_CPER,
-        Answer::BadHeader => answers::BAD_HEADER,
-        Answer::BadType(_) => answers::BAD_TYPE,
-        Answer::Empty => answers::EMPTY,
-        Answer::SpansFull => answers::SPANS_FULL,
-        Answer::TriesSpent => answers::TRIES_SPENT,
-    }
+    answer.into()
 }
 
 // The type that comes with a bad type, else 0.
@@ -91,14 +92,7 @@ pub fn type_of(answer: Answer) -> u32
 {
     match answer {
         Answer::BadType(header_type) => header_type,
-        Answer::Done => 0,
-        Answer::TooLong => 0,
-        Answer::BadRules => 0,
-        Answer::NotCper => 0,
-        Answer::BadHeader => 0,
-        Answer::Empty => 0,
-        Answer::SpansFull => 0,
-        Answer::TriesSpent => 0,
+        _ => 0,
     }
 }
 
@@ -106,14 +100,12 @@ pub fn type_of(answer: Answer) -> u32
 pub fn listing_told(listing: Listing) -> [u64; 5]
     ensures { result ≡ listing_told listing }
 {
-    let answer = listing.answer;
-    let stop = listing.stop;
     [
         listing.rows as u64,
         listing.tries,
-        type_of(answer) as u64,
+        type_of(listing.answer) as u64,
         bit_of(listing.whole) as u64,
-        stop_number(stop) as u64,
+        u32::from(listing.stop) as u64,
     ]
 }
 
@@ -122,7 +114,7 @@ pub fn refused(answer: Answer) -> Listing
     ensures { result ≡ refusal answer }
 {
     Listing {
-        answer: answer,
+        answer,
         rows: 0,
         tries: 0,
         whole: false,
@@ -134,15 +126,13 @@ pub fn refused(answer: Answer) -> Listing
 pub fn listing_at(end: Walked) -> Listing
     ensures { result ≡ listing_at end }
 {
-    let cut = end.cut;
-    let stop = end.stop;
-    let answer = answer_of(cut, end.rows, stop, end.bad_type);
+    let answer = answer_of(end.cut, end.rows, end.stop, end.bad_type);
     Listing {
-        answer: answer,
+        answer,
         rows: end.rows,
         tries: end.tries,
-        whole: (number_of(answer) == answers::DONE) & end.whole,
-        stop: stop,
+        whole: (answer == Answer::Done) & end.whole,
+        stop: end.stop,
     }
 }
 
@@ -154,12 +144,9 @@ pub fn list(region: &[u8], rules: &[u32], limit: u64, spans: &mut [u32]) -> List
     if MOST_BYTES < region.len() {
         return refused(Answer::TooLong);
     }
-    if !rules::valid(rules) {
+    let Some(table) = Columns::of(rules) else {
         return refused(Answer::BadRules);
-    }
-    let columns = rules::columns::columns_of(rules);
-    let bounds = region_walk::bounds_of(limit, rules, spans);
-    listing_at(region_walk::region_walk(
-        region, &columns, &bounds, 0, DEEPEST, 0, true, TOP, 0, spans,
-    ))
+    };
+    let bounds = Bounds::new(table, limit, spans);
+    listing_at(region_walk::region_walk(region, &bounds, 0, DEEPEST, 0, true, TOP, 0, spans))
 }

@@ -1,4 +1,5 @@
 // A span row (document 01, 'The nested listing'; document 02, C-17) in a lent table: its numbers, written and read, and the rows that a table has room for.
+// The table is numbers and no slice of `Span`, since C lends it (include/crashlog.h).
 #![tactic(auto)]
 
 ghost use Rattle.std.specs.Prelude.{◌≡◌, min, ◌+◌, ◌*◌, ◌≤◌, length};
@@ -32,14 +33,14 @@ const MOST_ROWS: usize = 4294967294;
 pub fn least(a: usize, b: usize) -> usize
     ensures { result ≡ min a b }
 {
-    if b < a { b } else { a }
+    a.min(b)
 }
 
 // The rows of a table that are used.
 pub fn room_of(spans: &[u32]) -> u32
     ensures { result ≡ min (capacity spans.now) most_rows }
 {
-    least(spans.len() / WIDTH, MOST_ROWS) as u32
+    (spans.len() / WIDTH).min(MOST_ROWS) as u32
 }
 
 // Writes a row.

@@ -11,10 +11,10 @@ pub mod stop;
 use header_judge::version::{NO_WORD, ending_of};
 use header_judge::{LACKING, NO_SIZE, Summary};
 use region_rows::Span;
-use stop::{Stop, stop_ended};
+use stop::Stop;
 
 // What cut a walk off, if anything did.
-#[derive(Clone, Copy)]
+#[derive(Clone, Copy, Debug, PartialEq, Eq)]
 pub enum Cut {
     Going,
     Full,
@@ -51,14 +51,15 @@ fn sizeless(word: u32, size: usize) -> Found
     ensures { result ≡ sizeless word size }
 {
     if size == NO_SIZE {
-        return Found::Nothing {
+        Found::Nothing {
             stop: Stop::BadType,
             bad_type: word / 256 % 16,
-        };
-    }
-    Found::Nothing {
-        stop: Stop::BadHeader,
-        bad_type: 0,
+        }
+    } else {
+        Found::Nothing {
+            stop: Stop::BadHeader,
+            bad_type: 0,
+        }
     }
 }
 
@@ -67,10 +68,10 @@ pub fn span_of(level: u32, parent: u32, offset: usize, left: usize, summary: Sum
     requires { (offset < 2 ^ 32) × (summary.declared ≤ 524280) × (summary.size ≤ 536) }
     ensures { result ≡ span_of level parent offset left summary }
 {
-    let held = region_rows::least(summary.declared, left);
+    let held = summary.declared.min(left);
     Span {
-        level: level,
-        parent: parent,
+        level,
+        parent,
         offset: offset as u32,
         held: held as u32,
         declared: summary.declared as u32,
@@ -100,7 +101,7 @@ pub fn try_at(
 {
     if word == NO_WORD {
         return Found::Nothing {
-            stop: stop_ended(ending_of(bytes)),
+            stop: ending_of(bytes).into(),
             bad_type: 0,
         };
     }
@@ -123,8 +124,8 @@ pub fn try_at(
     region_rows::put(spans, rows as usize, span);
     Found::Row {
         held: span.held as usize,
-        declared: declared,
-        size: size,
+        declared,
+        size,
         boxed: header_judge::is_box(word, flags),
     }
 }

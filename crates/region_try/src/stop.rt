@@ -6,7 +6,8 @@ ghost use Rattle.region_try.specs.Whole.{clean_stop};
 use answers::stops;
 use header_judge::version::Ending;
 
-// Untold where the walk is cut off, or not made. A bad type is told as a bad header.
+// Untold, where the walk is cut off or not made, is number 0 of include/crashlog.h. A bad type is told as a bad header; it stands beside
+// its stop, since one value with the type inside goes through memory (docs/SPEED.md, 'What they show').
 #[derive(Clone, Copy)]
 pub enum Stop {
     Untold,
@@ -20,44 +21,44 @@ pub enum Stop {
 }
 
 // The number of a reason.
-pub fn stop_number(stop: Stop) -> u32
-    ensures { result ≡ stop_number stop }
-{
-    match stop {
-        Stop::Untold => stops::UNTOLD,
-        Stop::EndOfInput => stops::END_OF_INPUT,
-        Stop::ZeroWord => stops::ZERO_WORD,
-        Stop::DeadbeefWord => stops::DEADBEEF_WORD,
-        Stop::FewBytes => stops::FEW_BYTES,
-        Stop::BadHeader => stops::BAD_HEADER,
-        Stop::BadType => stops::BAD_HEADER,
-        Stop::SizeZero => stops::SIZE_ZERO,
+impl From<Stop> for u32 {
+    ghost from_gives = { λ stop number. number ≡ stop_number stop };
+
+    fn from(stop: Stop) -> u32 {
+        match stop {
+            Stop::Untold => stops::UNTOLD,
+            Stop::EndOfInput => stops::END_OF_INPUT,
+            Stop::ZeroWord => stops::ZERO_WORD,
+            Stop::DeadbeefWord => stops::DEADBEEF_WORD,
+            Stop::FewBytes => stops::FEW_BYTES,
+            Stop::BadHeader | Stop::BadType => stops::BAD_HEADER,
+            Stop::SizeZero => stops::SIZE_ZERO,
+        }
     }
 }
 
 // The reason where the records end.
+impl From<Ending> for Stop {
+    ghost from_gives = { λ ending stop. stop ≡ stop_ended ending };
+
+    fn from(ending: Ending) -> Stop {
+        match ending {
+            Ending::ZeroWord => Stop::ZeroWord,
+            Ending::DeadbeefWord => Stop::DeadbeefWord,
+            Ending::FewBytes => Stop::FewBytes,
+        }
+    }
+}
+
 pub fn stop_ended(ending: Ending) -> Stop
     ensures { result ≡ stop_ended ending }
 {
-    match ending {
-        Ending::ZeroWord => Stop::ZeroWord,
-        Ending::DeadbeefWord => Stop::DeadbeefWord,
-        Ending::FewBytes => Stop::FewBytes,
-    }
+    ending.into()
 }
 
 // Is all well where a region stops for a reason: at its input's end, or at a word that ends the records?
 pub fn clean_stop(stop: Stop) -> bool
     ensures { result ≡ clean_stop stop }
 {
-    match stop {
-        Stop::Untold => false,
-        Stop::EndOfInput => true,
-        Stop::ZeroWord => true,
-        Stop::DeadbeefWord => true,
-        Stop::FewBytes => false,
-        Stop::BadHeader => false,
-        Stop::BadType => false,
-        Stop::SizeZero => false,
-    }
+    matches!(stop, Stop::EndOfInput | Stop::ZeroWord | Stop::DeadbeefWord)
 }

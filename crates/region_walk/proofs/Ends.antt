@@ -6,12 +6,12 @@ use Prim.Native.Nat.{ℕ, ◌-◌}
 use Rattle.header_judge.specs.declared.Head.{Head}
 use Rattle.region_try.specs.Stops.{Standing, unknown, no_byte, header, standing_told}
 use Rattle.region_try.specs.Tries.{Try, none, try_of, deepest}
-use Rattle.region_try.specs.Steps.{Walk, state, step, run}
+use Rattle.region_try.specs.Steps.{Walk, step, run}
 use Rattle.region_try.specs.declared.Cut.{Cut}
 use Rattle.region_try.specs.declared.Cut.TheVariants.{Going, Full, Spent}
 use Rattle.region_try.proofs.Stops.{stands_none, stands_here}
 use Rattle.region_try.proofs.Runs.{run_none, run_cons, run_cut}
-use Rattle.region_walk.specs.Steps.{end_telling, end_where, stands_in, region_end}
+use Rattle.region_walk.specs.Steps.{counts_of, end_telling, end_where, stands_in, region_end}
 use Rattle.region_walk.specs.declared.Walked.{Walked}
 
 -- ---- a walk that is cut off
@@ -59,5 +59,5 @@ module _ (limit room levels : ℕ) where
 
 -- those at the end of a walk are the walk's
 pub end_counts : (standing : Standing) (m : Walk) {t : List ℕ} {w : Walked} → ◌≡◌ {A = List ℕ × Walked} (t, w) (end_where standing m)
-    → ◌≡◌ {A = Walk} (t, state w.rows w.tries w.whole w.cut) m
-end_counts standing m e = ap (λ (x : List ℕ × Walked). (x.0, state x.1.rows x.1.tries x.1.whole x.1.cut)) e
+    → ◌≡◌ {A = Walk} (t, counts_of w) m
+end_counts standing m e = ap (λ (x : List ℕ × Walked). (x.0, counts_of x.1)) e

@@ -1,13 +1,11 @@
 -- One turn of the region walk's loop: what is left of the region, run from here, ends as it does when run from the next position.
 -- By the try that the turn makes, and for a Box by the run of its child. Assumes nothing.
 use mathlib.Core.Path.{◌≡◌, refl, ap, ap₂, sym, ◌∙◌, subst}
-use mathlib.Core.List.{List, [], ◌∷◌, ◌++◌}
+use mathlib.Core.List.{List, ◌∷◌, ◌++◌}
 use mathlib.Core.Bool.{Bool, true, false, ◌&&◌}
 use Prim.Native.Nat.{min, ℕ, ◌+◌, ◌-◌, ◌≤◌, ◌<◌, ◌^◌}
 use native.Mathlib.Omega.{arith}
 use native.Mathlib.Nat.{add-zero}
-use types.Run.{OneOf, miss}
-use denote.Enum.Declared.{tag_of}
 use lib.Dec.{leb, ltb}
 use lib.ListN.{length, take, drop, length-take, length-drop}
 use lib.Seq.{drop-drop, take_all, take-length}
@@ -16,12 +14,11 @@ use Rattle.basics.proofs.Parts.{tail_part}
 use Rattle.header_judge.specs.Version.{word_of}
 use Rattle.header_judge.specs.Head.{head_with, head_of}
 use Rattle.header_judge.specs.Steps.{Known}
-use Rattle.region_try.specs.contracts.Cut.{the_type as cut-type}
 use Rattle.region_rows.specs.declared.Span.{Span}
 use Rattle.region_try.specs.Stops.{Standing, no_byte}
 use Rattle.region_try.specs.Tries.{Try, hit, try_of, deepest, rows_found, within, records, box_tries, region_tries}
 use Rattle.region_try.specs.Whole.{clean_stop, keeps_whole}
-use Rattle.region_try.specs.Steps.{Walk, state, try_at, found, counted, step, run, box_whole, RowBounds}
+use Rattle.region_try.specs.Steps.{Walk, state, try_at, found, counted, step, run, box_whole}
 use Rattle.region_try.specs.declared.Cut.{Cut}
 use Rattle.region_try.specs.declared.Cut.TheVariants.{Going, Full, Spent}
 use Rattle.region_try.specs.declared.stop.Stop.{Stop}
@@ -36,7 +33,8 @@ use Rattle.region_try.proofs.Tries.{records_end, records_first, records_stop, re
 use Rattle.region_try.proofs.Stops.{stands_hit, past_within, past_box}
 use Rattle.region_try.proofs.Whole.{keeps_stop, keeps_plain, keeps_box}
 use Rattle.region_try.proofs.Runs.{spent_going, full_going, step_spent, step_made, run_none, run_cons, run_append, run_cut, run_rows}
-use Rattle.region_walk.specs.Steps.{limit_in, room_in, table_in, walk_end, end_where, stands_in, region_end}
+use Rattle.region_walk.specs.Steps.{walk_end, counts_of, end_where, stands_in, region_end}
+use Rattle.region_walk.specs.declared.bounds.Bounds.{Bounds}
 use Rattle.region_walk.specs.declared.Walked.{Walked}
 use Rattle.region_walk.proofs.Ends.{cut_off, end_cut, ends_none, ends_cut, ends_stop, end_counts}
 
@@ -69,7 +67,7 @@ held_fits bs base at k h g =
 -- the counts of its child's walk are those of the tries inside it
 pub child_counts : (rules : List ℕ) (limit room levels : ℕ) (held : List ℕ) (base size row : ℕ) (m : Walk) → 0 < levels → size ≤ length held
     → {t : List ℕ} {w : Walked} → ◌≡◌ {A = List ℕ × Walked} (t, w) (region_end limit room (levels - 1) (region_tries rules (levels - 1) (drop size held) (base + size) row (row + 1)) m)
-    → ◌≡◌ {A = Walk} (t, state w.rows w.tries w.whole w.cut) (run limit room (box_tries rules levels held base size row) m)
+    → ◌≡◌ {A = Walk} (t, counts_of w) (run limit room (box_tries rules levels held base size row) m)
 child_counts rules limit room levels held base size row m p h e =
     rw (box_open rules levels held base size row p h) (end_counts _ _ e)
 
@@ -85,10 +83,10 @@ pub record Place : Type 0 where
   pub limit : ℕ
   pub room : ℕ
 
--- the place of a walk, from what it is lent
-abbrev pub placed : List ℕ → List ℕ → List ℕ → ℕ → ℕ → ℕ → Place
-placed bytes rules bounds base levels parent =
-    record { rules = table_in rules bounds; bytes = bytes; base = base; levels = levels; parent = parent; limit = limit_in bounds; room = room_in bounds }
+-- the place of a walk
+abbrev pub placed : List ℕ → Bounds → ℕ → ℕ → ℕ → Place
+placed bytes b base levels parent =
+    record { rules = b.rules; bytes = bytes; base = base; levels = levels; parent = parent; limit = b.limit; room = b.room }
 
 module _ (p : Place) where
   -- the bytes from a position on
@@ -210,7 +208,6 @@ module _ (p : Place) where
     pub within : at < length p.bytes
     pub due : tries < p.limit
     pub gave : ◌≡◌ {A = List ℕ × Found} (t₁, f) (found p.room rows (try_from at) t)
-    pub bounded : RowBounds f
 
 module _ {p : Place} {at : ℕ} {t t₁ : List ℕ} {rows tries : ℕ} {f : Found} (y : Tried p at t t₁ rows tries f) (whole : Bool) where
   made : step p.limit p.room (try_from p at) (t, state rows tries whole Going) ≡ (t₁, counted rows (tries + 1) (whole && keeps_whole (try_from p at)) f)
@@ -243,9 +240,6 @@ module _ {p : Place} {at : ℕ} {t t₁ : List ℕ} {rows tries : ℕ} {f : Foun
 
     pub row_free : rows < p.room
     row_free = seen.free
-
-    pub row_bounds : (0 < d) × (d ≤ 524280) × (0 < z) × (z ≤ 536)
-    row_bounds = rw e at y.bounded
 
     pub row_held : at + h ≤ length p.bytes
     row_held =
@@ -314,13 +308,7 @@ module _ (p : Place) (at word flags : ℕ) where
   pub tried_at : {t t₁ : List ℕ} {rows tries : ℕ} {f : Found} → p.levels ≤ deepest → at < length p.bytes → tries < p.limit
       → word ≡ word_of part → Known p.rules word flags
       → ◌≡◌ {A = List ℕ × Found} (t₁, f) (found p.room rows (try_at (deepest - p.levels) p.parent (p.base + at) part word flags) t)
-      → RowBounds f → Tried p at t t₁ rows tries f
-  tried_at deep within due is_word is_flags gave bounded =
+      → Tried p at t t₁ rows tries f
+  tried_at deep within due is_word is_flags gave =
       let h : head_with part word flags ≡ head_of p.rules part = head_known p.rules part word flags is_word is_flags in
-      record { deep = deep; within = within; due = due; gave = rw (h, tail_part) at gave; bounded = bounded }
-
--- a cut that is not the first is none that goes on
-pub tag_cut : (cut : Cut) → OneOf (1 ∷ 2 ∷ []) (tag_of cut-type cut) → cut ≡ Going → ⊥
-tag_cut Going o e = miss (1 ∷ 2 ∷ []) 0 tt o
-tag_cut Full o e = full_going e
-tag_cut Spent o e = spent_going e
+      record { deep = deep; within = within; due = due; gave = rw (h, tail_part) at gave }

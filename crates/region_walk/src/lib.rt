@@ -3,36 +3,20 @@
 #![tactic(auto)]
 
 ghost use Rattle.std.specs.Prelude.{◌≡◌, ◌<◌};
-ghost use Rattle.region_try.specs.Steps.{state};
-ghost use Rattle.region_walk.specs.Steps.{start_bounds, room_in, Walkable, walk_end, going, region_run, box_run};
+ghost use Rattle.region_walk.specs.Steps.{Walkable, walk_end, untold, counts_of, going, region_run, box_run};
 
+pub mod bounds;
+
+use bounds::Bounds;
 use header_judge::version::{NO_WORD, word_of};
 use region_try::stop::{Stop, clean_stop};
 use region_try::{Cut, Found, State};
-use rules::columns::NUMBERS;
 
 // How deep Boxes are opened.
 pub const DEEPEST: u32 = 4;
 
-// What stays the same in a whole walk is lent as two arrays, since a reference to an array is one word: `rules` has the columns of the
-// rule table, and `bounds` the limit of tries, the rows that there is room for and the rows of the rule table.
-const LIMIT: usize = 0;
-
-const ROOM: usize = 1;
-
-const RULE_ROWS: usize = 2;
-
-pub const BOUNDS: usize = 3;
-
-// Those of a walk under a limit and some rules into a table.
-pub fn bounds_of(limit: u64, rules: &[u32], spans: &[u32]) -> [u64; BOUNDS]
-    ensures { result ≡ start_bounds limit rules.now spans.now }
-{
-    let rule_rows = rules.len() / rules::NUMBERS_IN_RULE;
-    [limit, region_rows::room_of(spans) as u64, rule_rows as u64]
-}
-
-// How a region's walk ends: the counts, and why the region stops, with its bad type, where nothing cuts the walk off.
+// How a region's walk ends: the counts, and why the region stops, with its bad type, where nothing cuts the walk off. The counts are no
+// struct in it, which would be copied with its padding: a fiftieth more instructions for the thinnest Boxes.
 #[derive(Clone, Copy)]
 pub struct Walked {
     pub rows: u32,
@@ -43,27 +27,45 @@ pub struct Walked {
     pub bad_type: u32,
 }
 
+// One line at each end of a walk, where a literal takes eight.
 pub fn walk_end(rows: u32, tries: u64, whole: bool, cut: Cut, stop: Stop, bad_type: u32) -> Walked
     ensures { result ≡ walk_end rows tries whole cut stop bad_type }
 {
     Walked {
-        rows: rows,
-        tries: tries,
-        whole: whole,
-        cut: cut,
-        stop: stop,
-        bad_type: bad_type,
+        rows,
+        tries,
+        whole,
+        cut,
+        stop,
+        bad_type,
     }
 }
 
-pub fn counts(rows: u32, tries: u64, whole: bool, cut: Cut) -> State
-    ensures { result ≡ state rows tries whole cut }
-{
-    State {
-        rows: rows,
-        tries: tries,
-        whole: whole,
-        cut: cut,
+impl Walked {
+    // The end of a walk of which no stop is told.
+    pub fn untold(counts: State) -> Walked
+        ensures { result ≡ untold counts }
+    {
+        walk_end(
+            counts.rows,
+            counts.tries,
+            counts.whole,
+            counts.cut,
+            Stop::Untold,
+            0,
+        )
+    }
+
+    // The counts alone.
+    pub fn counts(self) -> State
+        ensures { result ≡ counts_of self }
+    {
+        State {
+            rows: self.rows,
+            tries: self.tries,
+            whole: self.whole,
+            cut: self.cut,
+        }
     }
 }
 
@@ -71,8 +73,7 @@ pub fn counts(rows: u32, tries: u64, whole: bool, cut: Cut) -> State
 #[cycle(box_walk_region_walk)]
 pub fn region_walk(
     bytes: &[u8],
-    rules: &[u32; NUMBERS],
-    bounds: &[u64; BOUNDS],
+    bounds: &Bounds,
     base: usize,
     levels: u32,
     mut rows: u32,
@@ -81,22 +82,23 @@ pub fn region_walk(
     mut tries: u64,
     spans: &mut [u32],
 ) -> Walked
-    requires { Walkable rules.now bytes.now base levels bounds.now spans.old }
-    ensures { (spans.new, result) ≡ region_run rules.now bounds.now levels bytes.now base parent (going spans.old rows tries whole) }
+    requires { Walkable bytes.now base levels bounds.now spans.old }
+    ensures { (spans.new, result) ≡ region_run bounds.now levels bytes.now base parent (going spans.old rows tries whole) }
 {
     let mut last = NO_WORD;
-    let mut known: u32 = 0;
-    let mut at: usize = 0;
+    let mut known = 0;
+    let mut at = 0;
+    // No index is counted: what a record declares is the step.
     while at < bytes.len() {
-        if bounds[LIMIT] <= tries {
+        if bounds.limit <= tries {
             return walk_end(rows, tries, false, Cut::Spent, Stop::Untold, 0);
         }
         let word = word_of(&bytes[at..]);
         if word != last {
             last = word;
-            known = rules::columns::flags(rules, bounds[RULE_ROWS] as usize, word);
+            known = bounds.rules.flags(word);
         }
-        tries = tries + 1;
+        tries += 1;
         let tried = region_try::try_at(
             &bytes[at..],
             word,
@@ -104,7 +106,7 @@ pub fn region_walk(
             DEEPEST - levels,
             parent,
             base + at,
-            bounds[ROOM] as u32,
+            bounds.room,
             rows,
             spans,
         );
@@ -113,9 +115,7 @@ pub fn region_walk(
                 let clean = clean_stop(stop);
                 return walk_end(rows, tries, whole & clean, Cut::Going, stop, bad_type);
             }
-            Found::NoRoom => {
-                return walk_end(rows, tries, false, Cut::Full, Stop::Untold, 0);
-            }
+            Found::NoRoom => return walk_end(rows, tries, false, Cut::Full, Stop::Untold, 0),
             Found::Row {
                 held,
                 declared,
@@ -123,13 +123,12 @@ pub fn region_walk(
                 boxed,
             } => {
                 let row = rows;
-                rows = rows + 1;
-                whole = whole & (declared <= held);
+                rows += 1;
+                whole &= declared <= held;
                 if boxed {
                     let end = at + held;
                     let inner = box_walk(
                         &bytes[at..end],
-                        rules,
                         bounds,
                         base + at,
                         size,
@@ -139,25 +138,14 @@ pub fn region_walk(
                         whole,
                         spans,
                     );
-                    let cut = inner.cut;
-                    match cut {
-                        Cut::Going => {}
-                        _ => {
-                            return walk_end(
-                                inner.rows,
-                                inner.tries,
-                                inner.whole,
-                                cut,
-                                Stop::Untold,
-                                0,
-                            );
-                        }
+                    if inner.cut != Cut::Going {
+                        return Walked::untold(inner);
                     }
                     rows = inner.rows;
                     tries = inner.tries;
                     whole = inner.whole;
                 }
-                at = at + declared;
+                at += declared;
             }
         }
     }
@@ -169,8 +157,7 @@ pub fn region_walk(
 #[cycle(box_walk_region_walk)]
 fn box_walk(
     held: &[u8],
-    rules: &[u32; NUMBERS],
-    bounds: &[u64; BOUNDS],
+    bounds: &Bounds,
     base: usize,
     size: usize,
     levels: u32,
@@ -179,19 +166,29 @@ fn box_walk(
     whole: bool,
     spans: &mut [u32],
 ) -> State
-    requires { Walkable rules.now held.now base levels bounds.now spans.old × (row < room_in bounds.now) }
-    ensures { (spans.new, result) ≡ box_run rules.now bounds.now levels held.now base size row spans.old tries whole }
+    requires { Walkable held.now base levels bounds.now spans.old × (row < bounds.now.room) }
+    ensures { (spans.new, result) ≡ box_run bounds.now levels held.now base size row spans.old tries whole }
 {
     let rows = row + 1;
+    let cut = Cut::Going;
     if levels == 0 {
-        return counts(rows, tries, whole, Cut::Going);
+        return State {
+            rows,
+            tries,
+            whole,
+            cut,
+        };
     }
     if held.len() <= size {
-        return counts(rows, tries, whole & (size <= held.len()), Cut::Going);
+        return State {
+            rows,
+            tries,
+            whole: whole & (size <= held.len()),
+            cut,
+        };
     }
     let child = region_walk(
         &held[size..],
-        rules,
         bounds,
         base + size,
         levels - 1,
@@ -201,6 +198,5 @@ fn box_walk(
         tries,
         spans,
     );
-    let cut = child.cut;
-    counts(child.rows, child.tries, child.whole, cut)
+    child.counts()
 }

@@ -12,13 +12,12 @@ pub returns-then-not-is_opened : goal.returns-then-not-is_opened
 returns-then-not-is_opened c =
     let a = c.args in
     let shut : is_opened a.cper.now a.record_id.now a.section ≡ false = sym c.is_opened.ensures ∙ c.if-not-is_opened.true in
-    rw c.counts.ensures
-    (sym (walk_unopened a.cper.now a.record_id.now a.rules.now a.bounds.now a.section _ [] shut ∙ walk_none a.cper.now a.record_id.now a.rules.now a.bounds.now _))
+    (sym (walk_unopened a.cper.now a.record_id.now a.bounds.now a.section _ [] shut ∙ walk_none a.cper.now a.record_id.now a.bounds.now _))
 
 pub returns : goal.returns
 returns c =
     let a = c.args in
     let opened : is_opened a.cper.now a.record_id.now a.section ≡ true = sym c.is_opened.ensures ∙ c.if-not-is_opened.false in
-    rw c.counts-2.ensures
-    (walk_region a.cper.now a.record_id.now a.rules.now a.bounds.now a.section _ opened
+    rw c.counts.ensures
+    (walk_region a.cper.now a.record_id.now a.bounds.now a.section _ opened
     (region_part a.cper.now a.section (opened_long a.cper.now a.record_id.now a.section opened)) c.region_walk-region.ensures)

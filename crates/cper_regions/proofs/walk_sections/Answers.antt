@@ -5,8 +5,10 @@ use mathlib.Core.List.{List}
 use mathlib.Core.Bool.{true}
 use Prim.Native.Nat.{ℕ}
 use native.Mathlib.Omega.{arith}
+use Rattle.std.proofs.Common.{rules}
 use Rattle.region_try.specs.Steps.{Walk}
 use Rattle.region_walk.specs.Steps.{going}
+use Rattle.region_walk.specs.declared.bounds.Bounds.{Bounds}
 use Rattle.cper_sections.specs.Steps.{Found}
 use Rattle.cper_sections.specs.declared.kept.Section.{Section}
 use Rattle.cper_sections.proofs.KeptFrom.{kept_start}
@@ -21,29 +23,27 @@ loop-section-init c =
       few = omega arith;
       on = omega arith;
       same = refl;
-      ends = ap (λ (ks : List Section). sections_run a.cper.now a.record_id.now a.rules.now a.bounds.now ks (going a.spans.now 0 0 true))
+      ends = ap (λ (ks : List Section). sections_run a.cper.now a.record_id.now a.bounds.now ks (going a.spans.now 0 0 true))
           (kept_start a.cper.now c.section_count-count.result c.section_count-count.ensures);
     }
 
 -- what sections still to come end as, once these are known to be others
-ends_in : (cper id rules bs : List ℕ) {ks js : List Section} (m : Walk) {n : Walk} → ks ≡ js
-    → sections_run cper id rules bs ks m ≡ n → sections_run cper id rules bs js m ≡ n
-ends_in cper id rules bs m e f = ap (λ (ks : List Section). sections_run cper id rules bs ks m) (sym e) ∙ f
+ends_in : (cper id : List ℕ) (b : Bounds) {ks js : List Section} (m : Walk) {n : Walk} → ks ≡ js
+    → sections_run cper id b ks m ≡ n → sections_run cper id b js m ≡ n
+ends_in cper id b m e f = ap (λ (ks : List Section). sections_run cper id b ks m) (sym e) ∙ f
 
 pub returns-in_default : goal.returns-in_default
 returns-in_default c =
     let a = c.args in
-    rw c.counts.ensures
-    (sym (walk_none a.cper.now a.record_id.now a.rules.now a.bounds.now _)
-    ∙ ends_in a.cper.now a.record_id.now a.rules.now a.bounds.now _ c.in_default.ensures c.loop-section.invariant.ends)
+    (sym (walk_none a.cper.now a.record_id.now a.bounds.now _)
+    ∙ ends_in a.cper.now a.record_id.now a.bounds.now _ c.in_default.ensures c.loop-section.invariant.ends)
 
-pub returns-in_default-cut : goal.returns-in_default-cut
-returns-in_default-cut c =
+pub returns-then-ne : goal.returns-then-ne
+returns-then-ne c =
     let a = c.args in
     let f : Found a.cper.now c.loop-section.index c.section_count-count.result c.in-Kept.section = c.in-Kept.ensures in
-    rw c.counts-in_default-cut.ensures
-    (walk_ends a.cper.now a.record_id.now a.rules.now a.bounds.now _ _ _ c.walk_section-walked.ensures c.in_default-cut.not-Going
-    ∙ ends_in a.cper.now a.record_id.now a.rules.now a.bounds.now _ f.rest c.loop-section.invariant.ends)
+    walk_ends a.cper.now a.record_id.now a.bounds.now _ _ _ c.walk_section-walked.ensures (λ e. search rules)
+    ∙ ends_in a.cper.now a.record_id.now a.bounds.now _ f.rest c.loop-section.invariant.ends
 
 pub loop-section-preserved : goal.loop-section-preserved
 loop-section-preserved c =
@@ -54,6 +54,6 @@ loop-section-preserved c =
       few = l.few;
       on = omega (arith, f.below);
       same = c.walk_section-walked.auto.spans ∙ l.same;
-      ends = walk_next a.cper.now a.record_id.now a.rules.now a.bounds.now _ _ _ c.walk_section-walked.ensures c.in-Going.is
-          ∙ ends_in a.cper.now a.record_id.now a.rules.now a.bounds.now _ f.rest l.ends;
+      ends = walk_next a.cper.now a.record_id.now a.bounds.now _ _ _ c.walk_section-walked.ensures (search rules)
+          ∙ ends_in a.cper.now a.record_id.now a.bounds.now _ f.rest l.ends;
     }

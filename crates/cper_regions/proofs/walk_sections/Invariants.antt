@@ -15,8 +15,8 @@ invariant-loop-section l = record {
   few : l.count < 65536;
   on : l.index ≤ l.count;
   same : length l.spans ≡ length l.initial.spans;
-  ends : sections_run l.cper l.record_id l.rules l.bounds (kept_in l.cper l.index l.count) (going l.spans l.rows l.tries l.whole)
-      ≡ sections_run l.cper l.record_id l.rules l.bounds (kept_of l.cper) (going l.initial.spans 0 0 true);
+  ends : sections_run l.cper l.record_id l.bounds (kept_in l.cper l.index l.count) (going l.spans l.rows l.tries l.whole)
+      ≡ sections_run l.cper l.record_id l.bounds (kept_of l.cper) (going l.initial.spans 0 0 true);
 }
 
 abbrev pub decreases-loop-section : goal.decreases-loop-section

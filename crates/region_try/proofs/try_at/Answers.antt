@@ -12,7 +12,7 @@ use Rattle.region_try.proofs.try_at.Goals as goal
 pub returns-then-word-eq-NO_WORD-clause-result_after : goal.returns-then-word-eq-NO_WORD-clause-result_after
 returns-then-word-eq-NO_WORD-clause-result_after c =
     let a = c.args in
-    rw (c.stop_ended.ensures, c.ending_of.ensures)
+    rw (c.into.ensures, c.ending_of.ensures)
     (finds_nothing a.room a.rows a.spans.now (ended_stops a.level a.parent a.offset a.bytes.now a.word a.flags (omega arith)))
 
 pub returns-then-size-le-LACKING-clause-result_after : goal.returns-then-size-le-LACKING-clause-result_after

@@ -2,6 +2,7 @@
 -- Each end and each turn of the loop is the invariant with the lemma of what the try finds. Assumes nothing.
 use Rattle.std.proofs.Common.{◌≡◌, ℕ, ◌+◌, ◌-◌, ◌≤◌, ◌<◌, length, sym, refl, ap, ◌∙◌, inl, inr, arith, List, leb}
 use mathlib.Core.Bool.{◌&&◌}
+use Rattle.std.proofs.Common.{rules}
 use Rattle.basics.proofs.Parts.{tail_part}
 use Rattle.rules.specs.Rules.{flags_of}
 use Rattle.header_judge.proofs.Heads.{remembered}
@@ -11,9 +12,9 @@ use Rattle.region_try.proofs.Runs.{run_empty}
 use Rattle.region_try.proofs.Whole.{box_shut, box_header, box_opens}
 use Rattle.region_try.specs.declared.Found.{Found}
 use Rattle.region_try.specs.declared.Found.TheVariants.{Row}
-use Rattle.region_walk.specs.Steps.{limit_in, room_in, table_in, going}
+use Rattle.region_walk.specs.Steps.{going}
 use Rattle.region_walk.proofs.Turn.{held_fits, child_counts, Place, placed, rest, rest_start, rest_same, rest_end, rest_spent, Tried, tried_at, stop_turn, full_turn, row_free, row_held, plain_turn, box_turn, box_cut}
-use Rattle.region_walk.proofs.+box_walk_region_walk.Goals.{region_walk-Joined-word-last, region_walk-In-Row, region_walk-then-word-last, region_walk-else-word-last, region_walk-then-boxed+in-Going, region_walk-else-boxed}
+use Rattle.region_walk.proofs.+box_walk_region_walk.Goals.{region_walk-Joined-word-last, region_walk-In-Row, region_walk-then-word-last, region_walk-else-word-last, region_walk-then-boxed+else-ne, region_walk-else-boxed}
 use Rattle.region_walk.proofs.+box_walk_region_walk.Goals as goal
 
 -- ---- the Box walk
@@ -21,23 +22,23 @@ use Rattle.region_walk.proofs.+box_walk_region_walk.Goals as goal
 pub box_walk-returns-then-levels-eq0 : goal.box_walk-returns-then-levels-eq0
 box_walk-returns-then-levels-eq0 t c =
     let a = c.args in
-    rw (c.counts.ensures, box_shut a.whole a.levels a.size (length a.held.now) (omega arith))
-    (run_empty (limit_in a.bounds.now) (room_in a.bounds.now) _ (going a.spans.now (a.row + 1) a.tries a.whole)
-    (box_deep (table_in a.rules.now a.bounds.now) a.levels a.held.now a.base a.size a.row (omega arith)))
+    rw (box_shut a.whole a.levels a.size (length a.held.now) (omega arith))
+    (run_empty a.bounds.now.limit a.bounds.now.room _ (going a.spans.now (a.row + 1) a.tries a.whole)
+    (box_deep a.bounds.now.rules a.levels a.held.now a.base a.size a.row (omega arith)))
 
 pub box_walk-returns-then-held-size : goal.box_walk-returns-then-held-size
 box_walk-returns-then-held-size t c =
     let a = c.args in
     let n = length a.held.now in
-    rw (c.counts-then-held-size.ensures, box_header a.whole a.levels a.size n (omega arith) c.requires.0.deep)
-    (run_empty (limit_in a.bounds.now) (room_in a.bounds.now) _ (going a.spans.now (a.row + 1) a.tries (a.whole && leb a.size n))
-    (box_short (table_in a.rules.now a.bounds.now) a.levels a.held.now a.base a.size a.row (omega arith)))
+    rw (box_header a.whole a.levels a.size n (omega arith) c.requires.0.deep)
+    (run_empty a.bounds.now.limit a.bounds.now.room _ (going a.spans.now (a.row + 1) a.tries (a.whole && leb a.size n))
+    (box_short a.bounds.now.rules a.levels a.held.now a.base a.size a.row (omega arith)))
 
 pub box_walk-returns : goal.box_walk-returns
 box_walk-returns t c =
     let a = c.args in
-    rw (c.counts-2.ensures, box_opens a.whole a.levels a.size (length a.held.now) (omega arith) c.requires.0.deep (omega arith))
-    (child_counts (table_in a.rules.now a.bounds.now) (limit_in a.bounds.now) (room_in a.bounds.now) a.levels a.held.now a.base a.size a.row
+    rw (c.counts.ensures, box_opens a.whole a.levels a.size (length a.held.now) (omega arith) c.requires.0.deep (omega arith))
+    (child_counts a.bounds.now.rules a.bounds.now.limit a.bounds.now.room a.levels a.held.now a.base a.size a.row
     (going a.spans.now (a.row + 1) a.tries a.whole) (omega arith) (omega arith)
     (rw (tail_part a.held.now a.size) at c.region_walk-child.ensures))
 
@@ -46,20 +47,20 @@ box_walk-returns t c =
 pub region_walk-loop-at-init : goal.region_walk-loop-at-init
 region_walk-loop-at-init t c =
     let a = c.args in
-    let p = placed a.bytes.now a.rules.now a.bounds.now a.base a.levels a.parent in
+    let p = placed a.bytes.now a.bounds.now a.base a.levels a.parent in
     record { flags = λ n. absurd (n refl); ends = rest_start p a.spans.now a.rows a.tries a.whole }
 
 pub region_walk-returns-then-bounds-tries : goal.region_walk-returns-then-bounds-tries
 region_walk-returns-then-bounds-tries t c =
     let a = c.args in
     let l = c.loop-at in
-    let p = placed a.bytes.now a.rules.now a.bounds.now a.base a.levels a.parent in
+    let p = placed a.bytes.now a.bounds.now a.base a.levels a.parent in
     rw c.walk_end.ensures (sym (l.invariant.ends ∙ rest_spent p l.at l.spans l.rows l.tries l.whole (omega arith) (omega arith)))
 
 -- the flags of a turn's word
 module _ (t : ℕ) (c : region_walk-Joined-word-last t) where
   abbrev table : List ℕ
-  table = table_in c.args.rules.now c.args.bounds.now
+  table = c.args.bounds.now.rules
 
   -- they are remembered with the word
   memory : (c.if-word-last.last ≡ c.word_of-word.result) × Known table c.word_of-word.result c.if-word-last.known
@@ -77,9 +78,9 @@ module _ (t : ℕ) (c : region_walk-Joined-word-last t) where
   kept n = memory.1 (λ e. n (memory.0 ∙ e)) ∙ ap (flags_of table) (sym memory.0)
 
 -- the try of a turn that finds a record
-module _ (t : ℕ) (c : region_walk-In-Row t) (flags : Known (table_in c.args.rules.now c.args.bounds.now) c.word_of-word.result c.if-word-last.known) where
+module _ (t : ℕ) (c : region_walk-In-Row t) (flags : Known c.args.bounds.now.rules c.word_of-word.result c.if-word-last.known) where
   abbrev place : Place
-  place = placed c.args.bytes.now c.args.rules.now c.args.bounds.now c.args.base c.args.levels c.args.parent
+  place = placed c.args.bytes.now c.args.bounds.now c.args.base c.args.levels c.args.parent
 
   abbrev record_found : Found
   record_found = Row c.in-Row.held c.in-Row.declared c.in-Row.size c.in-Row.boxed
@@ -87,7 +88,7 @@ module _ (t : ℕ) (c : region_walk-In-Row t) (flags : Known (table_in c.args.ru
   turn : Tried place c.loop-at.at c.loop-at.spans c.try_at-tried.new.spans c.loop-at.rows c.loop-at.tries record_found
   turn =
       tried_at place c.loop-at.at c.word_of-word.result c.if-word-last.known c.requires.deep c.loop-at-test.true c.if-bounds-tries.false
-      c.word_of-word.ensures flags c.in-Row.ensures.result_after c.in-Row.ensures.row_bounds
+      c.word_of-word.ensures flags c.in-Row.ensures.result_after
 
   free : c.loop-at.rows < place.room
   free = row_free turn c.loop-at.whole refl
@@ -99,22 +100,22 @@ pub region_walk-returns-in-Nothing : goal.region_walk-returns-in-Nothing
 region_walk-returns-in-Nothing t c =
     let a = c.args in
     let l = c.loop-at in
-    let p = placed a.bytes.now a.rules.now a.bounds.now a.base a.levels a.parent in
+    let p = placed a.bytes.now a.bounds.now a.base a.levels a.parent in
     let flags = known t (goal.at.region_walk-returns-in-Nothing t c).Joined-word-last in
-    let turn = tried_at p l.at c.word_of-word.result c.if-word-last.known c.requires.deep c.loop-at-test.true c.if-bounds-tries.false c.word_of-word.ensures flags c.in-Nothing.ensures.result_after c.in-Nothing.ensures.row_bounds in
+    let turn = tried_at p l.at c.word_of-word.result c.if-word-last.known c.requires.deep c.loop-at-test.true c.if-bounds-tries.false c.word_of-word.ensures flags c.in-Nothing.ensures.result_after in
     rw (c.walk_end-in-Nothing.ensures, c.clean_stop-clean.ensures) (sym (l.invariant.ends ∙ stop_turn turn l.whole refl))
 
 pub region_walk-returns-in-NoRoom : goal.region_walk-returns-in-NoRoom
 region_walk-returns-in-NoRoom t c =
     let a = c.args in
     let l = c.loop-at in
-    let p = placed a.bytes.now a.rules.now a.bounds.now a.base a.levels a.parent in
+    let p = placed a.bytes.now a.bounds.now a.base a.levels a.parent in
     let flags = known t (goal.at.region_walk-returns-in-NoRoom t c).Joined-word-last in
-    let turn = tried_at p l.at c.word_of-word.result c.if-word-last.known c.requires.deep c.loop-at-test.true c.if-bounds-tries.false c.word_of-word.ensures flags c.in-NoRoom.ensures.result_after c.in-NoRoom.ensures.row_bounds in
+    let turn = tried_at p l.at c.word_of-word.result c.if-word-last.known c.requires.deep c.loop-at-test.true c.if-bounds-tries.false c.word_of-word.ensures flags c.in-NoRoom.ensures.result_after in
     rw c.walk_end-in-NoRoom.ensures (sym (l.invariant.ends ∙ full_turn turn l.whole refl))
 
 pub region_walk-overflow_add-rows : goal.region_walk-overflow_add-rows
-region_walk-overflow_add-rows t c = let a = goal.at.region_walk-overflow_add-rows t c in omega (arith, free t a.In-Row (known t a.Joined-word-last), c.requires.sound.room)
+region_walk-overflow_add-rows t c = let a = goal.at.region_walk-overflow_add-rows t c in omega (arith, free t a.In-Row (known t a.Joined-word-last), c.args.bounds.now.numbered)
 
 pub region_walk-overflow_add-end : goal.region_walk-overflow_add-end
 region_walk-overflow_add-end t c = let a = goal.at.region_walk-overflow_add-end t c in omega (arith, held t a.In-Row (known t a.Joined-word-last), c.requires.offsets)
@@ -125,29 +126,28 @@ region_walk-slice_bounds-box_walk-end t c = let a = goal.at.region_walk-slice_bo
 pub region_walk-box_walk-inner-requires : goal.region_walk-box_walk-inner-requires
 region_walk-box_walk-inner-requires t c =
     let w = c.requires in
-    let o = w.sound in
     let a = goal.at.region_walk-box_walk-inner-requires t c in
     let inside : c.loop-at.at + c.in-Row.held ≤ length c.args.bytes.now = held t a.In-Row (known t a.Joined-word-last) in
     let offsets = held_fits c.args.bytes.now c.args.base c.loop-at.at (c.loop-at.at + c.in-Row.held - c.loop-at.at) w.offsets (omega arith) in
-    (omega arith, (record { offsets = offsets; deep = w.deep; sound = record { limit = o.limit; room = o.room; rows = omega (arith, o.rows); columns = o.columns; blank = o.blank } }, free t a.In-Row (known t a.Joined-word-last)))
+    (omega arith, (record { offsets = offsets; deep = w.deep; rows = omega (arith, w.rows) }, free t a.In-Row (known t a.Joined-word-last)))
 
-pub region_walk-returns-in_default : goal.region_walk-returns-in_default
-region_walk-returns-in_default t c =
+pub region_walk-returns-then-ne : goal.region_walk-returns-then-ne
+region_walk-returns-then-ne t c =
     let l = c.loop-at in
-    let a = goal.at.region_walk-returns-in_default t c in
-    rw c.walk_end-in_default.ensures
-    (sym (l.invariant.ends ∙ box_cut (turn t a.In-Row (known t a.Joined-word-last)) l.whole refl c.if-boxed.true c.box_walk-inner.ensures c.in_default.not-Going))
+    let a = goal.at.region_walk-returns-then-ne t c in
+    rw c.untold.ensures
+    (sym (l.invariant.ends ∙ box_cut (turn t a.In-Row (known t a.Joined-word-last)) l.whole refl c.if-boxed.true c.box_walk-inner.ensures (λ e. search rules)))
 
 pub region_walk-loop-at-preserved : goal.region_walk-loop-at-preserved
 region_walk-loop-at-preserved t c =
     let a = goal.at.region_walk-loop-at-preserved t c in
     let turn = turn t a.In-Row (known t a.Joined-word-last) in
     let l = c.loop-at in
-    let p = placed c.args.bytes.now c.args.rules.now c.args.bounds.now c.args.base c.args.levels c.args.parent in
+    let p = placed c.args.bytes.now c.args.bounds.now c.args.base c.args.levels c.args.parent in
     let next = l.at + c.in-Row.declared in
     let on : rest p l.at l.spans l.rows l.tries l.whole ≡ rest p next c.if-boxed.spans c.if-boxed.rows c.if-boxed.tries c.if-boxed.whole =
     elim c.if-boxed.branch [
-      | region_walk-then-boxed+in-Going w ↦ box_turn turn l.whole refl w.if-boxed.true w.box_walk-inner.ensures w.in-Going.is ∙ rest_same p next w.spans-is w.rows-is w.tries-is w.whole-is
+      | region_walk-then-boxed+else-ne w ↦ box_turn turn l.whole refl w.if-boxed.true w.box_walk-inner.ensures (search rules) ∙ rest_same p next w.spans-is w.rows-is w.tries-is w.whole-is
       | region_walk-else-boxed w ↦ plain_turn turn l.whole refl w.if-boxed.false ∙ rest_same p next w.spans-is w.rows-is w.tries-is w.whole-is
     ] in
     record { flags = kept t a.Joined-word-last; ends = l.invariant.ends ∙ on }
@@ -156,5 +156,5 @@ pub region_walk-returns : goal.region_walk-returns
 region_walk-returns t c =
     let a = c.args in
     let l = c.loop-at in
-    let p = placed a.bytes.now a.rules.now a.bounds.now a.base a.levels a.parent in
+    let p = placed a.bytes.now a.bounds.now a.base a.levels a.parent in
     rw c.walk_end-2.ensures (sym (l.invariant.ends ∙ rest_end p l.at l.spans l.rows l.tries l.whole (omega arith)))

@@ -13,7 +13,7 @@ decreases-region_walk l = 2 * l.levels + 1
 
 abbrev pub invariant-region_walk-loop-at : goal.invariant-region_walk-loop-at
 invariant-region_walk-loop-at l =
-    let p = placed l.bytes l.rules l.bounds l.base l.levels l.parent in
+    let p = placed l.bytes l.bounds l.base l.levels l.parent in
     let i = l.initial in
     record {
       flags : Known p.rules l.last l.known;

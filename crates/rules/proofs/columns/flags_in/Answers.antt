@@ -11,17 +11,16 @@ use Rattle.rules.proofs.columns.flags_in.Goals as goal
 
 pub loop-row-init : goal.loop-row-init
 unfolding flags_of
-loop-row-init c = (omega arith, rw sub-zero)
+loop-row-init c = rw sub-zero
 
 pub loop-row-preserved : goal.loop-row-preserved
 loop-row-preserved c =
     let l = c.loop-row in
     let a = c.args in
-    (omega arith, looked a.word l.all c.flags_given-all.result (columns_step a.columns.now l.row (a.blocks * 8) (omega arith)) c.flags_given-all.ensures ∙ l.invariant.1)
+    looked a.word l.all c.flags_given-all.result (columns_step a.columns.now l.row (a.blocks * 8) (omega arith)) c.flags_given-all.ensures ∙ l.invariant
 
 pub returns : goal.returns
 returns c =
     let l = c.loop-row in
     let a = c.args in
-    sym (none_left a.word l.all (columns_end a.columns.now l.row (a.blocks * 8) (omega arith)))
-    ∙ l.invariant.1
+    sym (none_left a.word l.all (columns_end a.columns.now l.row (a.blocks * 8) (omega arith))) ∙ l.invariant

@@ -23,16 +23,16 @@ small-end true is = rw is
 small-end false is = refl
 
 pub loop-row-init : goal.loop-row-init
-loop-row-init c = (omega arith, rw sub-zero (small_valid c.args.columns.now (c.args.blocks * 8) (omega arith)))
+loop-row-init c = rw sub-zero (small_valid c.args.columns.now (c.args.blocks * 8) (omega arith))
 
 pub loop-row-preserved : goal.loop-row-preserved
 loop-row-preserved c =
     let l = c.loop-row in
     let a = c.args in
-    (omega arith, small-step l.small (columns_step a.columns.now l.row (a.blocks * 8) (omega arith)) ∙ l.invariant.1)
+    small-step l.small (columns_step a.columns.now l.row (a.blocks * 8) (omega arith)) ∙ l.invariant
 
 pub returns : goal.returns
 returns c =
     let l = c.loop-row in
     let a = c.args in
-    small-end l.small (columns_end a.columns.now l.row (a.blocks * 8) (omega arith)) ∙ l.invariant.1
+    small-end l.small (columns_end a.columns.now l.row (a.blocks * 8) (omega arith)) ∙ l.invariant

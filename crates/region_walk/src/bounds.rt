@@ -1,0 +1,30 @@
+// What stays the same in a whole walk.
+ghost use Rattle.std.specs.Prelude.{◌≡◌, ◌≤◌, min};
+ghost use Rattle.region_rows.specs.Rows.{capacity, most_rows};
+
+use region_rows::room_of;
+use rules::columns::Columns;
+
+// The rule table, the limit of tries, and the rows that there is room for: none has the number that stands for no parent.
+#[derive(Drop)]
+pub struct Bounds {
+    pub rules: Columns,
+    pub limit: u64,
+    pub room: u32,
+    pub ghost numbered: { room ≤ most_rows },
+}
+
+impl Bounds {
+    // Those of a walk by some rules and under a limit into a table.
+    pub fn new(rules: Columns, limit: u64, spans: &[u32]) -> Bounds
+        ensures rules_are { result.rules ≡ rules }
+        ensures limit_is { result.limit ≡ limit }
+        ensures room_is { result.room ≡ min (capacity spans.now) most_rows }
+    {
+        Bounds {
+            rules,
+            limit,
+            room: room_of(spans),
+        }
+    }
+}
