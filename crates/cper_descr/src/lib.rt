@@ -69,8 +69,7 @@ impl CperSectionDescriptor {
             section_type: bytes_at(s, SECTION_TYPE_AT),
             fru_id: has_bit(validation_bits as u32, FRU_ID).then_some(bytes_at(s, FRU_ID_AT)),
             section_severity: u32::read_le(s, SECTION_SEVERITY_AT).into(),
-            fru_text: has_bit(validation_bits as u32, FRU_TEXT)
-                .then_some(bytes_at(s, FRU_TEXT_AT)),
+            fru_text: has_bit(validation_bits as u32, FRU_TEXT).then_some(bytes_at(s, FRU_TEXT_AT)),
         }
     }
 

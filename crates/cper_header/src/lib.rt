@@ -155,18 +155,18 @@ impl CperHeader {
         ensures { result ≡ header_of s.now }
     {
         let validation_bits = u32::read_le(s, VALIDATION_BITS_AT);
+        let timestamp = Timestamp::from_slice(s, TIMESTAMP_AT);
+        let platform_id = bytes_at(s, PLATFORM_ID_AT);
+        let partition_id = bytes_at(s, PARTITION_ID_AT);
         CperHeader {
             revision: u16::read_le(s, REVISION_AT),
             section_count: section_count(s),
             error_severity: u32::read_le(s, ERROR_SEVERITY_AT).into(),
             validation_bits,
             record_length: u32::read_le(s, RECORD_LENGTH_AT),
-            timestamp: has_bit(validation_bits, TIMESTAMP)
-                .then_some(Timestamp::from_slice(s, TIMESTAMP_AT)),
-            platform_id: has_bit(validation_bits, PLATFORM_ID)
-                .then_some(bytes_at(s, PLATFORM_ID_AT)),
-            partition_id: has_bit(validation_bits, PARTITION_ID)
-                .then_some(bytes_at(s, PARTITION_ID_AT)),
+            timestamp: has_bit(validation_bits, TIMESTAMP).then_some(timestamp),
+            platform_id: has_bit(validation_bits, PLATFORM_ID).then_some(platform_id),
+            partition_id: has_bit(validation_bits, PARTITION_ID).then_some(partition_id),
             creator_id: bytes_at(s, CREATOR_ID_AT),
             notification_type: bytes_at(s, NOTIFICATION_TYPE_AT),
             record_id: u64::read_le(s, RECORD_ID_AT),
