@@ -5,7 +5,7 @@ ghost use Rattle.std.specs.Prelude.{◌≡◌, ◌++◌, ◌≤◌, length, drop
 ghost use Rattle.cper_descr.specs.Descriptor.{descriptor_size, descriptor_of, moved, normal_descriptor, start_size, start_bytes, descriptor_bytes};
 
 use basics::has_bit;
-use cper_fields::{Severity, bytes_at, number_if, put_bytes};
+use cper_fields::{Severity, bytes_at, number_if, put_bytes, put_field};
 use le::LittleEndian;
 
 pub const SECTION_DESCRIPTOR_SIZE: usize = 72;
@@ -97,9 +97,9 @@ impl CperSectionDescriptor {
             self.flags,
         );
         put_bytes(out, SECTION_TYPE_AT, &self.section_type);
-        put_bytes(out, FRU_ID_AT, &self.fru_id.unwrap_or([0; 16]));
+        put_field(out, FRU_ID_AT, self.fru_id);
         u32::from(self.section_severity).write_le(out, SECTION_SEVERITY_AT);
-        put_bytes(out, FRU_TEXT_AT, &self.fru_text.unwrap_or([0; 20]));
+        put_field(out, FRU_TEXT_AT, self.fru_text);
     }
 }
 
@@ -130,11 +130,11 @@ pub fn rewrite(s: &[u8], out: &mut [u8], offset: u32)
         bits % KNOWN_BITS,
         u32::read_le(s, FLAGS_AT),
     );
-    let fru_id = has_bit(bits as u32, FRU_ID).then_some(bytes_at(s, FRU_ID_AT));
-    let fru_text = has_bit(bits as u32, FRU_TEXT).then_some(bytes_at(s, FRU_TEXT_AT));
-    let severity = Severity::from(u32::read_le(s, SECTION_SEVERITY_AT));
     put_bytes(out, SECTION_TYPE_AT, &bytes_at::<16>(s, SECTION_TYPE_AT));
-    put_bytes(out, FRU_ID_AT, &fru_id.unwrap_or([0; 16]));
+    let fru_id = has_bit(bits as u32, FRU_ID).then_some(bytes_at::<16>(s, FRU_ID_AT));
+    put_field(out, FRU_ID_AT, fru_id);
+    let severity = Severity::from(u32::read_le(s, SECTION_SEVERITY_AT));
     u32::from(severity).write_le(out, SECTION_SEVERITY_AT);
-    put_bytes(out, FRU_TEXT_AT, &fru_text.unwrap_or([0; 20]));
+    let fru_text = has_bit(bits as u32, FRU_TEXT).then_some(bytes_at::<20>(s, FRU_TEXT_AT));
+    put_field(out, FRU_TEXT_AT, fru_text);
 }

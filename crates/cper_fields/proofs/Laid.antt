@@ -7,10 +7,11 @@ use native.Mathlib.Omega.{arith}
 use lib.Dec.{T, leb, lit≤}
 use lib.ListN.{length, take, drop, length-append, length-drop}
 use lib.Seq.{take_at}
+use Rattle.std.specs.Prelude.{Option}
 use Rattle.le.specs.Le.{put}
 use Rattle.layout.specs.Fields.{digits}
 use Rattle.layout.proofs.Digits.{length_digits, put-digits}
-use Rattle.cper_fields.specs.Fields.{over}
+use Rattle.cper_fields.specs.Fields.{over, present}
 use Rattle.cper_fields.proofs.Lists.{drop_past}
 
 -- what a fixed size holds, so does all that is as long
@@ -60,6 +61,11 @@ module _ {size at : ℕ} {out : List ℕ} (laid : Laid size at out) where
   -- of bytes, as `put_bytes` writes it
   abbrev pub laid_bytes : (n : ℕ) {field given next : List ℕ} → next ≡ over out at (length given) given → length given ≡ n → given ≡ field → Laid size (at + n) next
   laid_bytes n {given = given} e l = follows n (e ∙ ap (λ (k : ℕ). over out at k given) l) l
+
+  -- of bytes that may be absent, as `put_field` writes it
+  abbrev pub laid_field : (n : ℕ) (field : Option (List ℕ)) {given : Option (List ℕ)} {next : List ℕ} → (next ≡ over out at n (present n given)) × (length (present n given) ≡ n) → given ≡ field
+      → Laid size (at + n) next
+  laid_field n field e f = follows n e.0 e.1 (ap (present n) f)
 
   -- of a number
   abbrev pub laid_number : (w : ℕ) {x y : ℕ} {next : List ℕ} → T (leb (at + w) size) → next ≡ put w out at y → y ≡ x → Laid size (at + w) next

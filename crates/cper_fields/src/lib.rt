@@ -2,7 +2,7 @@
 #![tactic(auto)]
 
 ghost use Rattle.std.specs.Prelude.{◌≡◌, ◌+◌, ◌≤◌, length};
-ghost use Rattle.cper_fields.specs.Fields.{number_if, part, over, severity_of, severity_number};
+ghost use Rattle.cper_fields.specs.Fields.{number_if, part, over, present, severity_of, severity_number};
 
 #[derive(Clone, Copy, Debug, PartialEq, Eq)]
 pub enum Severity {
@@ -62,4 +62,15 @@ pub fn put_bytes(out: &mut [u8], at: usize, field: &[u8])
     ensures { out.new ≡ over out.old at (length field.now) field.now }
 {
     copies::copy(field, &mut out[at..at + field.len()]);
+}
+
+// Writes a field; absent, it is zero.
+pub fn put_field<const N: usize>(out: &mut [u8], at: usize, field: Option<[u8; N]>)
+    requires { at + N ≤ length out.old }
+    ensures { (out.new ≡ over out.old at N (present N field.entry)) × (length (present N field.entry) ≡ N) }
+{
+    match field {
+        Some(bytes) => put_bytes(out, at, &bytes),
+        None => put_bytes(out, at, &[0; N]),
+    }
 }

@@ -6,7 +6,7 @@ ghost use Rattle.cper_header.specs.Record.{header_size, signature, is_cper, coun
 ghost use Rattle.cper_header.specs.Header.{timestamp_of, timestamp_bytes, header_of, normal_header, header_bytes};
 
 use basics::has_bit;
-use cper_fields::{Severity, bytes_at, number_if, put_bytes};
+use cper_fields::{Severity, bytes_at, number_if, put_bytes, put_field};
 use le::LittleEndian;
 
 pub const RECORD_HEADER_SIZE: usize = 128;
@@ -190,7 +190,6 @@ impl CperHeader {
         requires { header_size ≤ length out.old }
         ensures { out.new ≡ header_bytes self ++ drop header_size out.old }
     {
-        let timestamp = self.timestamp.map_or([0; 8], Timestamp::to_bytes);
         sign(out);
         self.revision.write_le(out, REVISION_AT);
         SIGNATURE_END.write_le(out, SIGNATURE_END_AT);
@@ -198,9 +197,9 @@ impl CperHeader {
         u32::from(self.error_severity).write_le(out, ERROR_SEVERITY_AT);
         self.validation_bits.write_le(out, VALIDATION_BITS_AT);
         self.record_length.write_le(out, RECORD_LENGTH_AT);
-        put_bytes(out, TIMESTAMP_AT, &timestamp);
-        put_bytes(out, PLATFORM_ID_AT, &self.platform_id.unwrap_or([0; 16]));
-        put_bytes(out, PARTITION_ID_AT, &self.partition_id.unwrap_or([0; 16]));
+        put_field(out, TIMESTAMP_AT, self.timestamp.map(Timestamp::to_bytes));
+        put_field(out, PLATFORM_ID_AT, self.platform_id);
+        put_field(out, PARTITION_ID_AT, self.partition_id);
         put_bytes(out, CREATOR_ID_AT, &self.creator_id);
         put_bytes(out, NOTIFICATION_TYPE_AT, &self.notification_type);
         self.record_id.write_le(out, RECORD_ID_AT);
