@@ -5,19 +5,18 @@ use mathlib.Core.List.{List}
 use Prim.Native.Nat.{ℕ, ◌≤◌}
 use native.Mathlib.Omega.{arith}
 use lib.ListN.{length, length-append}
+use Rattle.basics.specs.Bits.{has}
 use Rattle.le.specs.Le.{le}
 use Rattle.layout.proofs.Digits.{length_digits}
-use Rattle.cper_fields.specs.Fields.{has, part}
+use Rattle.cper_fields.specs.Fields.{part, present}
 use Rattle.cper_fields.proofs.Lengths.{length_part, length-present}
 use Rattle.cper_descr.specs.Descriptor.{descriptor_size, fru_id_bit, fru_text_bit, changed, descriptor_of, descriptor_bytes}
 use Rattle.cper_descr.specs.declared.CperSectionDescriptor.{CperSectionDescriptor}
 
-pub length-descriptor : (d : CperSectionDescriptor) → length d.section_type ≡ 16 → length d.fru_id ≡ 16 → length d.fru_text ≡ 20
+pub length-descriptor : (d : CperSectionDescriptor) → length d.section_type ≡ 16 → length (present 16 d.fru_id) ≡ 16 → length (present 20 d.fru_text) ≡ 20
     → length (descriptor_bytes d) ≡ descriptor_size
 unfolding descriptor_bytes
-length-descriptor d type fru text =
-    simp (length-append, length_digits)
-    (omega (arith, length-present d.has_fru_id 16 d.fru_id fru, length-present d.has_fru_text 20 d.fru_text text))
+length-descriptor d type fru text = simp (length-append, length_digits) (omega arith)
 
 -- as it was read, but for the offset and the validation number
 pub length-descriptor_read : (bs : List ℕ) (offset bits : ℕ) → descriptor_size ≤ length bs → length (descriptor_bytes (changed offset bits (descriptor_of bs))) ≡ descriptor_size

@@ -1,8 +1,10 @@
 -- The CPER section descriptor (document 01, 'CPER'; UEFI N.2.2): what is read of it, its normal form, and its bytes.
-use Rattle.std.specs.Prelude.{ℕ, ◌+◌, List, ◌++◌}
+use Rattle.std.specs.Prelude.{ℕ, ◌+◌, List, ◌++◌, is_some}
+use Rattle.std.specs.Bool.{then_some}
+use Rattle.basics.specs.Bits.{has}
 use Rattle.le.specs.Le.{le}
 use Rattle.layout.specs.Fields.{digits}
-use Rattle.cper_fields.specs.Fields.{has, number_if, part, zeros, present, severity_of, severity_number}
+use Rattle.cper_fields.specs.Fields.{number_if, part, zeros, present, severity_of, severity_number}
 use Rattle.cper_descr.specs.declared.CperSectionDescriptor.{CperSectionDescriptor}
 
 -- the bytes of a descriptor
@@ -27,7 +29,7 @@ fru_id_bit = 1
 abbrev pub fru_text_bit : ℕ
 fru_text_bit = 2
 
--- what some bytes tell; an absent field is zero
+-- what some bytes tell
 unfoldable pub descriptor_of : List ℕ → CperSectionDescriptor
 descriptor_of bs =
     let bits = le 1 bs 10 in
@@ -38,11 +40,9 @@ descriptor_of bs =
       validation_bits = bits;
       flags = le 4 bs 12;
       section_type = part bs type_at 16;
-      has_fru_id = has bits fru_id_bit;
-      fru_id = present (has bits fru_id_bit) 16 (part bs 32 16);
+      fru_id = then_some (has bits fru_id_bit) (part bs 32 16);
       section_severity = severity_of (le 4 bs 48);
-      has_fru_text = has bits fru_text_bit;
-      fru_text = present (has bits fru_text_bit) 20 (part bs 52 20);
+      fru_text = then_some (has bits fru_text_bit) (part bs 52 20);
     }
 
 -- the descriptor with another offset and validation number
@@ -55,10 +55,8 @@ changed offset bits d =
       validation_bits = bits;
       flags = d.flags;
       section_type = d.section_type;
-      has_fru_id = d.has_fru_id;
       fru_id = d.fru_id;
       section_severity = d.section_severity;
-      has_fru_text = d.has_fru_text;
       fru_text = d.fru_text;
     }
 
@@ -68,7 +66,7 @@ moved offset d = changed offset d.validation_bits d
 
 -- the bits of the fields that are present
 abbrev pub bits_of : CperSectionDescriptor → ℕ
-bits_of d = number_if d.has_fru_id fru_id_bit + number_if d.has_fru_text fru_text_bit
+bits_of d = number_if (is_some d.fru_id) fru_id_bit + number_if (is_some d.fru_text) fru_text_bit
 
 -- the validation number tells the fields that are present, and nothing else
 abbrev pub normal_descriptor : CperSectionDescriptor → CperSectionDescriptor
@@ -92,6 +90,6 @@ descriptor_bytes d =
     ++ zeros 1
     ++ digits 4 d.flags
     ++ d.section_type
-    ++ present d.has_fru_id 16 d.fru_id
+    ++ present 16 d.fru_id
     ++ digits 4 (severity_number d.section_severity)
-    ++ present d.has_fru_text 20 d.fru_text
+    ++ present 20 d.fru_text

@@ -4,7 +4,8 @@
 ghost use Rattle.std.specs.Prelude.{◌≡◌, ◌++◌, ◌≤◌, length, drop};
 ghost use Rattle.cper_descr.specs.Descriptor.{descriptor_size, descriptor_of, moved, normal_descriptor, start_size, start_bytes, descriptor_bytes};
 
-use cper_fields::Severity;
+use basics::has_bit;
+use cper_fields::{Severity, bytes_at, number_if, put_bytes, put_field};
 use le::LittleEndian;
 
 pub const SECTION_DESCRIPTOR_SIZE: usize = 72;
@@ -38,7 +39,7 @@ const FRU_TEXT: u32 = 2;
 // The remainder by it has the known bits alone.
 const KNOWN_BITS: u8 = 4;
 
-#[derive(Clone, Copy)]
+#[derive(Clone, Copy, Debug, PartialEq, Eq)]
 pub struct CperSectionDescriptor {
     pub section_offset: u32,
     pub section_length: u32,
@@ -46,41 +47,29 @@ pub struct CperSectionDescriptor {
     pub validation_bits: u8,
     pub flags: u32,
     pub section_type: [u8; 16],
-    pub has_fru_id: bool,
-    pub fru_id: [u8; 16],
+    pub fru_id: Option<[u8; 16]>,
     pub section_severity: Severity,
-    pub has_fru_text: bool,
-    pub fru_text: [u8; 20],
+    pub fru_text: Option<[u8; 20]>,
 }
 
 impl CperSectionDescriptor {
     // The descriptor that a slice starts with.
+    #[tactic(auto, unfolding(crate::specs::Descriptor::descriptor_of))]
     pub fn from_slice(s: &[u8]) -> CperSectionDescriptor
         requires { descriptor_size ≤ length s.now }
         ensures { result ≡ descriptor_of s.now }
     {
         let validation_bits = u8::read_le(s, VALIDATION_BITS_AT);
-        let has_fru_id = cper_fields::has_bit(validation_bits as u32, FRU_ID);
-        let has_fru_text = cper_fields::has_bit(validation_bits as u32, FRU_TEXT);
-        let section_type = cper_fields::bytes16_at(s, SECTION_TYPE_AT);
-        let fru_id = cper_fields::present16(has_fru_id, cper_fields::bytes16_at(s, FRU_ID_AT));
-        let section_severity = cper_fields::severity_of(u32::read_le(s, SECTION_SEVERITY_AT));
-        let fru_text = cper_fields::present20(
-            has_fru_text,
-            cper_fields::bytes20_at(s, FRU_TEXT_AT),
-        );
         CperSectionDescriptor {
             section_offset: u32::read_le(s, SECTION_OFFSET_AT),
             section_length: u32::read_le(s, SECTION_LENGTH_AT),
             revision: u16::read_le(s, REVISION_AT),
             validation_bits,
             flags: u32::read_le(s, FLAGS_AT),
-            section_type,
-            has_fru_id,
-            fru_id,
-            section_severity,
-            has_fru_text,
-            fru_text,
+            section_type: bytes_at(s, SECTION_TYPE_AT),
+            fru_id: has_bit(validation_bits as u32, FRU_ID).then_some(bytes_at(s, FRU_ID_AT)),
+            section_severity: u32::read_le(s, SECTION_SEVERITY_AT).into(),
+            fru_text: has_bit(validation_bits as u32, FRU_TEXT).then_some(bytes_at(s, FRU_TEXT_AT)),
         }
     }
 
@@ -88,8 +77,8 @@ impl CperSectionDescriptor {
     pub fn normalize(mut self) -> CperSectionDescriptor
         ensures { result ≡ normal_descriptor self }
     {
-        let fru_id = cper_fields::number_if(self.has_fru_id, FRU_ID);
-        let fru_text = cper_fields::number_if(self.has_fru_text, FRU_TEXT);
+        let fru_id = number_if(self.fru_id.is_some(), FRU_ID);
+        let fru_text = number_if(self.fru_text.is_some(), FRU_TEXT);
         self.validation_bits = (fru_id + fru_text) as u8;
         self
     }
@@ -99,10 +88,6 @@ impl CperSectionDescriptor {
         requires { descriptor_size ≤ length out.old }
         ensures { out.new ≡ descriptor_bytes self ++ drop descriptor_size out.old }
     {
-        let section_type = self.section_type;
-        let fru_id = self.fru_id;
-        let fru_text = self.fru_text;
-        let severity = self.section_severity;
         put_start(
             out,
             self.section_offset,
@@ -111,18 +96,10 @@ impl CperSectionDescriptor {
             self.validation_bits,
             self.flags,
         );
-        cper_fields::put16(out, SECTION_TYPE_AT, section_type);
-        cper_fields::put16(
-            out,
-            FRU_ID_AT,
-            cper_fields::present16(self.has_fru_id, fru_id),
-        );
-        cper_fields::severity_number(severity).write_le(out, SECTION_SEVERITY_AT);
-        cper_fields::put20(
-            out,
-            FRU_TEXT_AT,
-            cper_fields::present20(self.has_fru_text, fru_text),
-        );
+        put_bytes(out, SECTION_TYPE_AT, &self.section_type);
+        put_field(out, FRU_ID_AT, self.fru_id);
+        u32::from(self.section_severity).write_le(out, SECTION_SEVERITY_AT);
+        put_field(out, FRU_TEXT_AT, self.fru_text);
     }
 }
 
@@ -153,14 +130,11 @@ pub fn rewrite(s: &[u8], out: &mut [u8], offset: u32)
         bits % KNOWN_BITS,
         u32::read_le(s, FLAGS_AT),
     );
-    cper_fields::move16(true, s, out, SECTION_TYPE_AT);
-    cper_fields::move16(cper_fields::has_bit(bits as u32, FRU_ID), s, out, FRU_ID_AT);
-    let severity = cper_fields::severity_of(u32::read_le(s, SECTION_SEVERITY_AT));
-    cper_fields::severity_number(severity).write_le(out, SECTION_SEVERITY_AT);
-    cper_fields::move20(
-        cper_fields::has_bit(bits as u32, FRU_TEXT),
-        s,
-        out,
-        FRU_TEXT_AT,
-    );
+    put_bytes(out, SECTION_TYPE_AT, &bytes_at::<16>(s, SECTION_TYPE_AT));
+    let fru_id = has_bit(bits as u32, FRU_ID).then_some(bytes_at::<16>(s, FRU_ID_AT));
+    put_field(out, FRU_ID_AT, fru_id);
+    let severity = Severity::from(u32::read_le(s, SECTION_SEVERITY_AT));
+    u32::from(severity).write_le(out, SECTION_SEVERITY_AT);
+    let fru_text = has_bit(bits as u32, FRU_TEXT).then_some(bytes_at::<20>(s, FRU_TEXT_AT));
+    put_field(out, FRU_TEXT_AT, fru_text);
 }

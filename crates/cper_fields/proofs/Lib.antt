@@ -2,4 +2,3 @@ pub mod Copies
 pub mod Laid
 pub mod Lengths
 pub mod Lists
-pub mod Moves

@@ -1,11 +1,7 @@
 -- What the record header and the section descriptor share: validated fields, severities, parts of bytes.
-use Rattle.std.specs.Prelude.{ℕ, ◌+◌, ◌/◌, ◌%◌, List, ◌++◌, Bool, cond, eqb, take, drop, replicate}
+use Rattle.std.specs.Prelude.{ℕ, ◌+◌, List, ◌++◌, Bool, cond, eqb, take, drop, replicate, Option, unwrap_or}
 use Rattle.cper_fields.specs.declared.Severity.{Severity}
 use Rattle.cper_fields.specs.declared.Severity.TheVariants.{Recoverable, Fatal, Corrected, Informational}
-
--- does a validation number have a bit?
-abbrev pub has : ℕ → ℕ → Bool
-has bits bit = eqb (bits / bit % 2) 1
 
 -- a number where it is present, else 0
 abbrev pub number_if : Bool → ℕ → ℕ
@@ -22,9 +18,9 @@ over bs at n field = take at bs ++ field ++ drop (at + n) bs
 abbrev pub zeros : ℕ → List ℕ
 zeros n = replicate n 0
 
--- a field of `n` bytes, zero where it is absent
-abbrev pub present : Bool → ℕ → List ℕ → List ℕ
-present held n bs = cond held bs (zeros n)
+-- the `n` bytes of a field, zero where it is absent
+abbrev pub present : ℕ → Option (List ℕ) → List ℕ
+present n field = unwrap_or field (zeros n)
 
 -- a number above 3 is taken for 3
 abbrev pub severity_of : ℕ → Severity

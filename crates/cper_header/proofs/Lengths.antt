@@ -5,25 +5,25 @@ use mathlib.Core.List.{List}
 use Prim.Native.Nat.{ℕ, ◌≤◌}
 use native.Mathlib.Omega.{arith}
 use lib.ListN.{length, length-append}
+use Rattle.std.specs.Prelude.{Option, Some, None, option_map}
+use Rattle.basics.specs.Bits.{has}
 use Rattle.le.specs.Le.{le}
 use Rattle.layout.proofs.Digits.{length_digits}
-use Rattle.cper_fields.specs.Fields.{has, part}
+use Rattle.cper_fields.specs.Fields.{part, present}
 use Rattle.cper_fields.proofs.Lengths.{length_part, length-present}
 use Rattle.cper_header.specs.Record.{header_size}
 use Rattle.cper_header.specs.Header.{timestamp_bytes, platform_bit, partition_bit, changed, header_of, header_bytes}
+use Rattle.cper_header.specs.declared.Timestamp.{Timestamp}
 use Rattle.cper_header.specs.declared.CperHeader.{CperHeader}
 
-pub length-header : (h : CperHeader) → length h.platform_id ≡ 16 → length h.partition_id ≡ 16 → length h.creator_id ≡ 16 → length h.notification_type ≡ 16
+pub length_timestamp : (t : Option Timestamp) → length (present 8 (option_map timestamp_bytes t)) ≡ 8
+length_timestamp None = refl
+length_timestamp (Some t) = refl
+
+pub length-header : (h : CperHeader) → length (present 16 h.platform_id) ≡ 16 → length (present 16 h.partition_id) ≡ 16 → length h.creator_id ≡ 16 → length h.notification_type ≡ 16
     → length (header_bytes h) ≡ header_size
 unfolding header_bytes
-length-header h platform partition creator notification =
-    simp (length-append, length_digits)
-    (omega (
-      arith,
-      length-present h.has_timestamp 8 (timestamp_bytes h.timestamp) refl,
-      length-present h.has_platform_id 16 h.platform_id platform,
-      length-present h.has_partition_id 16 h.partition_id partition,
-    ))
+length-header h platform partition creator notification = simp (length-append, length_digits) (omega (arith, length_timestamp h.timestamp))
 
 -- as it was read, but for the section count, the record length and the validation number
 pub length-header_read : (bs : List ℕ) (count size bits : ℕ) → header_size ≤ length bs → length (header_bytes (changed count size bits (header_of bs))) ≡ header_size

@@ -1,8 +1,10 @@
 -- The CPER record header (document 01, 'CPER'; UEFI N.2.1): what is read of it, its normal form, and its bytes.
-use Rattle.std.specs.Prelude.{ℕ, ◌+◌, ◌%◌, List, [], ◌∷◌, ◌++◌, false, cond, eqb, get_or}
+use Rattle.std.specs.Prelude.{ℕ, ◌+◌, ◌%◌, List, [], ◌∷◌, ◌++◌, eqb, get_or, is_some, option_map}
+use Rattle.std.specs.Bool.{then_some}
+use Rattle.basics.specs.Bits.{has}
 use Rattle.le.specs.Le.{le}
 use Rattle.layout.specs.Fields.{digits}
-use Rattle.cper_fields.specs.Fields.{has, number_if, part, zeros, present, severity_of, severity_number}
+use Rattle.cper_fields.specs.Fields.{number_if, part, zeros, present, severity_of, severity_number}
 use Rattle.cper_header.specs.Record.{signature, signature_end, count_of}
 use Rattle.cper_header.specs.declared.Timestamp.{Timestamp}
 use Rattle.cper_header.specs.declared.CperHeader.{CperHeader}
@@ -22,10 +24,6 @@ timestamp_of bs at =
       century = get_or bs (at + 7) 0;
     }
 
-abbrev pub no_timestamp : Timestamp
-no_timestamp =
-    record { seconds = 0; minutes = 0; hours = 0; precise = false; day = 0; month = 0; year = 0; century = 0 }
-
 abbrev pub timestamp_bytes : Timestamp → List ℕ
 timestamp_bytes t =
     t.seconds ∷ t.minutes ∷ t.hours ∷ number_if t.precise 1 ∷ t.day ∷ t.month ∷ t.year ∷ t.century ∷ []
@@ -42,7 +40,7 @@ timestamp_bit = 2
 abbrev pub partition_bit : ℕ
 partition_bit = 4
 
--- what some bytes tell; an absent field is zero
+-- what some bytes tell
 unfoldable pub header_of : List ℕ → CperHeader
 header_of bs =
     let bits = le 4 bs 16 in
@@ -52,12 +50,9 @@ header_of bs =
       error_severity = severity_of (le 4 bs 12);
       validation_bits = bits;
       record_length = le 4 bs 20;
-      has_timestamp = has bits timestamp_bit;
-      timestamp = cond (has bits timestamp_bit) (timestamp_of bs 24) no_timestamp;
-      has_platform_id = has bits platform_bit;
-      platform_id = present (has bits platform_bit) 16 (part bs 32 16);
-      has_partition_id = has bits partition_bit;
-      partition_id = present (has bits partition_bit) 16 (part bs 48 16);
+      timestamp = then_some (has bits timestamp_bit) (timestamp_of bs 24);
+      platform_id = then_some (has bits platform_bit) (part bs 32 16);
+      partition_id = then_some (has bits partition_bit) (part bs 48 16);
       creator_id = part bs 64 16;
       notification_type = part bs 80 16;
       record_id = le 8 bs 96;
@@ -74,11 +69,8 @@ changed count size bits h =
       error_severity = h.error_severity;
       validation_bits = bits;
       record_length = size;
-      has_timestamp = h.has_timestamp;
       timestamp = h.timestamp;
-      has_platform_id = h.has_platform_id;
       platform_id = h.platform_id;
-      has_partition_id = h.has_partition_id;
       partition_id = h.partition_id;
       creator_id = h.creator_id;
       notification_type = h.notification_type;
@@ -93,7 +85,7 @@ counted count size h = changed count size h.validation_bits h
 
 -- the bits of the fields that are present
 abbrev pub bits_of : CperHeader → ℕ
-bits_of h = number_if h.has_timestamp timestamp_bit + number_if h.has_platform_id platform_bit + number_if h.has_partition_id partition_bit
+bits_of h = number_if (is_some h.timestamp) timestamp_bit + number_if (is_some h.platform_id) platform_bit + number_if (is_some h.partition_id) partition_bit
 
 -- the validation number tells the fields that are present, and nothing else
 abbrev pub normal_header : CperHeader → CperHeader
@@ -109,9 +101,9 @@ header_bytes h =
     ++ digits 4 (severity_number h.error_severity)
     ++ digits 4 h.validation_bits
     ++ digits 4 h.record_length
-    ++ present h.has_timestamp 8 (timestamp_bytes h.timestamp)
-    ++ present h.has_platform_id 16 h.platform_id
-    ++ present h.has_partition_id 16 h.partition_id
+    ++ present 8 (option_map timestamp_bytes h.timestamp)
+    ++ present 16 h.platform_id
+    ++ present 16 h.partition_id
     ++ h.creator_id
     ++ h.notification_type
     ++ digits 8 h.record_id

@@ -2,7 +2,7 @@
 -- Field by field. Assumes nothing.
 use mathlib.Core.Path.{◌≡◌, refl, sym, ap, ◌∙◌}
 use mathlib.Core.List.{List, ◌++◌, append_assoc}
-use mathlib.Core.Bool.{Bool, true, false, cond}
+use mathlib.Core.Bool.{Bool, true, false}
 use Prim.Native.Nat.{ℕ, ◌+◌, ◌%◌, ◌^◌, ◌≤◌, ◌<◌}
 use native.Mathlib.Nat.{add-zero}
 use native.Mathlib.Omega.{arith}
@@ -10,17 +10,21 @@ use lib.Dec.{eqb}
 use lib.ListN.{length, get_or}
 use lib.Seq.{get_or-drop}
 use borrow.Author.Tests.{le-leb}
+use Rattle.std.specs.Prelude.{Option, Some, None, is_some, option_map}
+use Rattle.std.specs.Bool.{then_some}
+use Rattle.basics.specs.Bits.{has}
 use Rattle.le.specs.Le.{le}
 use Rattle.le.proofs.Laws.{le_lt}
 use Rattle.layout.specs.Fields.{digits}
-use Rattle.cper_fields.specs.Fields.{has, number_if, part, zeros, present, severity_number}
+use Rattle.cper_fields.specs.Fields.{number_if, part, zeros, present, severity_number}
 use Rattle.cper_header.specs.Record.{header_size, signature, signature_end, starts_with, is_cper, count_of}
-use Rattle.cper_header.specs.Header.{timestamp_of, no_timestamp, timestamp_bytes, platform_bit, timestamp_bit, partition_bit, header_of, counted, bits_of, normal_header, header_bytes}
+use Rattle.cper_header.specs.Header.{timestamp_of, timestamp_bytes, platform_bit, timestamp_bit, partition_bit, header_of, counted, bits_of, normal_header, header_bytes}
 use Rattle.cper_header.specs.declared.Timestamp.{Timestamp}
 use Rattle.cper_header.specs.declared.CperHeader.{CperHeader}
-use Rattle.cper_fields.proofs.Lengths.{length_part, length-present, present_again}
+use Rattle.cper_fields.proofs.Lengths.{length_part, length-present}
+use Rattle.cper_header.proofs.Lengths.{length_timestamp}
 use Rattle.cper_laws.proofs.SeverityAgain.{severity_again, severity_small}
-use Rattle.cper_laws.proofs.Reading.{From, past, past_number, read_number, read_bytes}
+use Rattle.cper_laws.proofs.Reading.{From, past, past_number, read_number, read_bytes, read_field}
 
 -- ---- the timestamp
 
@@ -37,14 +41,10 @@ module _ (t : Timestamp) (bs rest : List ℕ) (at : ℕ) (from : From bs at (tim
       let first : get_or bs at 0 ≡ t.seconds = ap (λ (i : ℕ). get_or bs i 0) (sym (add-zero at)) ∙ byte 0 in
       rw (first, byte 1, byte 2, byte 3, byte 4, byte 5, byte 6, byte 7, precise_again t.precise)
 
-timestamp_again : (held : Bool) (t : Timestamp) (bs rest : List ℕ) (at : ℕ) → From bs at (present held 8 (timestamp_bytes t) ++ rest)
-    → cond held (timestamp_of bs at) no_timestamp ≡ cond held t no_timestamp
-timestamp_again true t bs rest at from = timestamp_from t bs rest at from
-timestamp_again false t bs rest at from = refl
-
-absent_again : (held : Bool) (t : Timestamp) → cond held (cond held t no_timestamp) no_timestamp ≡ cond held t no_timestamp
-absent_again true t = refl
-absent_again false t = refl
+timestamp_again : (t : Option Timestamp) (bs rest : List ℕ) (at : ℕ) → From bs at (present 8 (option_map timestamp_bytes t) ++ rest)
+    → then_some (is_some t) (timestamp_of bs at) ≡ t
+timestamp_again None bs rest at from = refl
+timestamp_again (Some t) bs rest at from = ap Some (timestamp_from t bs rest at from)
 
 -- ---- the header
 
@@ -59,7 +59,7 @@ validation_bits false true false = (refl, refl, refl, omega arith)
 validation_bits false false true = (refl, refl, refl, omega arith)
 validation_bits false false false = (refl, refl, refl, omega arith)
 
--- a header whose numbers fit their fields, whose validation number tells its fields, and whose absent fields are zero
+-- a header whose numbers fit their fields, and whose validation number tells its fields
 pub record Plain (h : CperHeader) : Type 0 where
   pub revision : h.revision < 256 ^ 2
   pub count : h.section_count < 256 ^ 2
@@ -68,13 +68,10 @@ pub record Plain (h : CperHeader) : Type 0 where
   pub flags : h.flags < 256 ^ 4
   pub persistence : h.persistence_information < 256 ^ 8
   pub bits : h.validation_bits ≡ bits_of h
-  pub platform : length h.platform_id ≡ 16
-  pub partition : length h.partition_id ≡ 16
+  pub platform : length (present 16 h.platform_id) ≡ 16
+  pub partition : length (present 16 h.partition_id) ≡ 16
   pub creator : length h.creator_id ≡ 16
   pub notification : length h.notification_type ≡ 16
-  pub timestamp_absent : cond h.has_timestamp h.timestamp no_timestamp ≡ h.timestamp
-  pub platform_absent : present h.has_platform_id 16 h.platform_id ≡ h.platform_id
-  pub partition_absent : present h.has_partition_id 16 h.partition_id ≡ h.partition_id
 
 module _ (h : CperHeader) (p : Plain h) (bs rest : List ℕ)
     (from : From bs 0
@@ -85,9 +82,9 @@ module _ (h : CperHeader) (p : Plain h) (bs rest : List ℕ)
     ++ (digits 4 (severity_number h.error_severity)
     ++ (digits 4 h.validation_bits
     ++ (digits 4 h.record_length
-    ++ (present h.has_timestamp 8 (timestamp_bytes h.timestamp)
-    ++ (present h.has_platform_id 16 h.platform_id
-    ++ (present h.has_partition_id 16 h.partition_id
+    ++ (present 8 (option_map timestamp_bytes h.timestamp)
+    ++ (present 16 h.platform_id
+    ++ (present 16 h.partition_id
     ++ (h.creator_id
     ++ (h.notification_type
     ++ (digits 8 h.record_id
@@ -97,13 +94,11 @@ module _ (h : CperHeader) (p : Plain h) (bs rest : List ℕ)
   header_from_lem : (header_of bs ≡ h) × (le 4 bs 6 ≡ signature_end) × (count_of bs ≡ h.section_count)
   unfolding header_of
   header_from_lem =
-      let v = validation_bits h.has_timestamp h.has_platform_id h.has_partition_id in
+      let v = validation_bits (is_some h.timestamp) (is_some h.platform_id) (is_some h.partition_id) in
       let bits_small : h.validation_bits < 256 ^ 4 = rw p.bits v.3 in
-      let has-timestamp : has h.validation_bits timestamp_bit ≡ h.has_timestamp = rw p.bits v.0 in
-      let has-platform : has h.validation_bits platform_bit ≡ h.has_platform_id = rw p.bits v.1 in
-      let has-partition : has h.validation_bits partition_bit ≡ h.has_partition_id = rw p.bits v.2 in
-      let platform-size = length-present h.has_platform_id 16 h.platform_id p.platform in
-      let partition-size = length-present h.has_partition_id 16 h.partition_id p.partition in
+      let has-timestamp : has h.validation_bits timestamp_bit ≡ is_some h.timestamp = rw p.bits v.0 in
+      let has-platform : has h.validation_bits platform_bit ≡ is_some h.platform_id = rw p.bits v.1 in
+      let has-partition : has h.validation_bits partition_bit ≡ is_some h.partition_id = rw p.bits v.2 in
       let revision = past 4 signature _ refl from in
       let end = past_number 2 h.revision _ revision in
       let count = past_number 4 signature_end _ end in
@@ -111,9 +106,9 @@ module _ (h : CperHeader) (p : Plain h) (bs rest : List ℕ)
       let bits = past_number 4 (severity_number h.error_severity) _ severity in
       let size = past_number 4 h.validation_bits _ bits in
       let timestamp = past_number 4 h.record_length _ size in
-      let platform = past 8 (present h.has_timestamp 8 (timestamp_bytes h.timestamp)) _ (length-present h.has_timestamp 8 (timestamp_bytes h.timestamp) refl) timestamp in
-      let partition = past 16 (present h.has_platform_id 16 h.platform_id) _ platform-size platform in
-      let creator = past 16 (present h.has_partition_id 16 h.partition_id) _ partition-size partition in
+      let platform = past 8 (present 8 (option_map timestamp_bytes h.timestamp)) _ (length_timestamp h.timestamp) timestamp in
+      let partition = past 16 (present 16 h.platform_id) _ p.platform platform in
+      let creator = past 16 (present 16 h.partition_id) _ p.partition partition in
       let notification = past 16 h.creator_id _ p.creator creator in
       let id = past 16 h.notification_type _ p.notification notification in
       let flags = past_number 8 h.record_id _ id in
@@ -125,8 +120,6 @@ module _ (h : CperHeader) (p : Plain h) (bs rest : List ℕ)
           read_number 4 (severity_number h.error_severity) _ (severity_small h.error_severity) severity,
           read_number 4 h.validation_bits _ bits_small bits,
           read_number 4 h.record_length _ p.size size,
-          read_bytes 16 (present h.has_platform_id 16 h.platform_id) _ platform-size platform,
-          read_bytes 16 (present h.has_partition_id 16 h.partition_id) _ partition-size partition,
           read_bytes 16 h.creator_id _ p.creator creator,
           read_bytes 16 h.notification_type _ p.notification notification,
           read_number 8 h.record_id _ p.id id,
@@ -136,12 +129,9 @@ module _ (h : CperHeader) (p : Plain h) (bs rest : List ℕ)
           has-timestamp,
           has-platform,
           has-partition,
-          timestamp_again h.has_timestamp h.timestamp bs _ 24 timestamp,
-          p.timestamp_absent,
-          p.platform_absent,
-          p.partition_absent,
-          p.platform_absent,
-          p.partition_absent,
+          timestamp_again h.timestamp bs _ 24 timestamp,
+          read_field 16 h.platform_id _ p.platform platform,
+          read_field 16 h.partition_id _ p.partition partition,
         ),
         read_number 4 signature_end _ (omega arith) end,
         count-read,
@@ -189,7 +179,4 @@ header_plain bs bytes whole count size few small =
       partition = length-present (has v partition_bit) 16 (part bs 48 16) (length_part bs 48 16 (omega arith));
       creator = length_part bs 64 16 (omega arith);
       notification = length_part bs 80 16 (omega arith);
-      timestamp_absent = absent_again (has v timestamp_bit) (timestamp_of bs 24);
-      platform_absent = present_again (has v platform_bit) 16 (part bs 32 16);
-      partition_absent = present_again (has v partition_bit) 16 (part bs 48 16);
     }

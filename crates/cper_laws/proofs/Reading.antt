@@ -1,6 +1,6 @@
 -- Fields that stand one after the other in some bytes are read where they stand.
 -- By dropping the fields before. Assumes nothing.
-use mathlib.Core.Path.{◌≡◌, sym, ap, ◌∙◌}
+use mathlib.Core.Path.{◌≡◌, refl, sym, ap, ◌∙◌}
 use mathlib.Core.List.{List, ◌++◌}
 use Prim.Native.Nat.{ℕ, ◌+◌, ◌^◌, ◌≤◌, ◌<◌}
 use native.Mathlib.Nat.{mod-eq_of_lt, add-zero, zero-add}
@@ -11,7 +11,9 @@ use Rattle.le.specs.Le.{le, put}
 use Rattle.le.proofs.Laws.{le_same, le-put}
 use Rattle.layout.specs.Fields.{digits}
 use Rattle.layout.proofs.Digits.{length_digits, put-digits}
-use Rattle.cper_fields.specs.Fields.{part}
+use Rattle.std.specs.Prelude.{Option, Some, None, is_some}
+use Rattle.std.specs.Bool.{then_some}
+use Rattle.cper_fields.specs.Fields.{part, present}
 
 -- from `at` on, the bytes are `rest`
 pub record From (bs : List ℕ) (at : ℕ) (rest : List ℕ) : Type 0 where
@@ -49,3 +51,8 @@ module _ {bs : List ℕ} {at : ℕ} where
   -- a field of bytes is read
   pub read_bytes : (n : ℕ) (field rest : List ℕ) → length field ≡ n → From bs at (field ++ rest) → part bs at n ≡ field
   read_bytes n field rest e f = ap (take n) f.is ∙ take_at field rest n e
+
+  -- and one that may be absent
+  pub read_field : (n : ℕ) (field : Option (List ℕ)) (rest : List ℕ) → length (present n field) ≡ n → From bs at (present n field ++ rest) → then_some (is_some field) (part bs at n) ≡ field
+  read_field n None rest e f = refl
+  read_field n (Some field) rest e f = ap Some (read_bytes n field rest e f)
