@@ -8,29 +8,30 @@ use Prim.Native.Nat.{ℕ, zero, suc, ◌≤◌, ◌<◌}
 use native.Mathlib.Omega.{arith}
 use lib.Dec.{eqb}
 use borrow.Author.Tests.{eq-eqb, ne_eqb, eqb-false}
+use Rattle.std.proofs.Common.{Ok, Err}
 use Rattle.basics.proofs.Orders.{le_or_lt}
 use Rattle.rules.specs.Rules.{flags_of}
 use Rattle.header_judge.specs.Version.{no_word, word_of, ending_of, header_type}
 use Rattle.header_judge.specs.Head.{no_size, lacking, size_of, declared_of, summary_of, head_with, head_of, declared_by}
 use Rattle.header_judge.specs.Steps.{Known}
 use Rattle.header_judge.specs.declared.Summary.{Summary}
-use Rattle.header_judge.specs.declared.Head.TheVariants.{Ended, BadHeader, BadType, Record}
+use Rattle.header_judge.specs.declared.NoRecord.TheVariants.{Ended, BadHeader, BadType}
 
 module _ (bs : List ℕ) (word flags : ℕ) where
-  pub head_ended : word ≡ no_word → head_with bs word flags ≡ Ended (ending_of bs)
+  pub head_ended : word ≡ no_word → head_with bs word flags ≡ Err (Ended (ending_of bs))
   unfolding head_with
   head_ended e = rw (eq-eqb word no_word e)
 
-  pub head_bad_type : (word ≡ no_word → ⊥) → size_of bs word flags ≡ no_size → head_with bs word flags ≡ BadType (header_type word)
+  pub head_bad_type : (word ≡ no_word → ⊥) → size_of bs word flags ≡ no_size → head_with bs word flags ≡ Err (BadType (header_type word))
   unfolding head_with
   head_bad_type f e = rw (ne_eqb word no_word f, eq-eqb (size_of bs word flags) no_size e)
 
-  pub head_bad_header : (word ≡ no_word → ⊥) → size_of bs word flags ≡ lacking → head_with bs word flags ≡ BadHeader
+  pub head_bad_header : (word ≡ no_word → ⊥) → size_of bs word flags ≡ lacking → head_with bs word flags ≡ Err BadHeader
   unfolding head_with
   head_bad_header f e = rw (ne_eqb word no_word f, e)
 
   pub head_record : (word ≡ no_word → ⊥) → lacking < size_of bs word flags
-      → head_with bs word flags ≡ Record (summary_of bs word flags)
+      → head_with bs word flags ≡ Ok (summary_of bs word flags)
   unfolding head_with
   head_record f h =
       let no-type : size_of bs word flags ≡ no_size → ⊥ = λ e. omega arith in
@@ -74,7 +75,7 @@ pub record Told (rules bs : List ℕ) (s : Summary) : Type 0 where
   pub is : s ≡ summary_of bs (word_of bs) (flags_of rules (word_of bs))
   pub found : lacking < size_of bs (word_of bs) (flags_of rules (word_of bs))
 
-pub record_told : (rules bs : List ℕ) {s : Summary} → head_of rules bs ≡ Record s → Told rules bs s
+pub record_told : (rules bs : List ℕ) {s : Summary} → head_of rules bs ≡ Ok s → Told rules bs s
 unfolding head_of head_with
 record_told rules bs {s} h = by (eqb w no_word) refl (eqb z no_size) refl (eqb z lacking) refl h
   where
@@ -88,7 +89,7 @@ record_told rules bs {s} h = by (eqb w no_word) refl (eqb z no_size) refl (eqb z
     z = size_of bs w f
 
     by : (i : Bool) → eqb w no_word ≡ i → (j : Bool) → eqb z no_size ≡ j → (k : Bool) → eqb z lacking ≡ k
-        → cond i (Ended (ending_of bs)) (cond j (BadType (header_type w)) (cond k BadHeader (Record (summary_of bs w f)))) ≡ Record s
+        → cond i (Err (Ended (ending_of bs))) (cond j (Err (BadType (header_type w))) (cond k (Err BadHeader) (Ok (summary_of bs w f)))) ≡ Ok s
         → Told rules bs s
     by true i j p k q h = absurd (let o : ◌≡◌ {A = ℕ} 0 1 = cc in omega arith)
     by false i true p k q h = absurd (let o : ◌≡◌ {A = ℕ} 0 1 = cc in omega arith)

@@ -8,6 +8,7 @@ use native.Mathlib.Omega.{arith}
 use lib.Dec.{eqb, ltb}
 use lib.ListN.{length, take, drop, length-append, length-take, take-append-drop, get_or-append}
 use borrow.Author.Tests.{le-ltb, ltb-false}
+use Rattle.std.proofs.Common.{Ok}
 use Rattle.le.specs.Le.{le}
 use Rattle.le.proofs.Laws.{le_same}
 use Rattle.rules.specs.Rules.{flags_of}
@@ -16,7 +17,6 @@ use Rattle.header_judge.specs.Head.{legacy, sizes_end, declared_of, layout_of, s
 use Rattle.header_judge.specs.declared.Layout.{Layout}
 use Rattle.header_judge.specs.declared.Layout.TheVariants.{Zero, One, Two, Three, Four, Five, Six, LegacyServer, LegacyGpu, Bad}
 use Rattle.header_judge.specs.declared.Summary.{Summary}
-use Rattle.header_judge.specs.declared.Head.TheVariants.{Record}
 use Rattle.header_judge.proofs.Sizes.{legacy_end, plain_end, sizes_most, count_most, enough_there, size_long, size_found, size_there, size_most}
 use Rattle.header_judge.proofs.Heads.{head_record, record_told}
 
@@ -82,7 +82,7 @@ module _ (bs more : List ℕ) where
     unfolding origin_of
     summary_longer = rw (declared_longer flags sizes, size_longer, (layout_longer (layout_of word flags) word there).1)
 
-  pub head_longer : (rules : List ℕ) {s : Summary} → head_of rules bs ≡ Record s → head_of rules (bs ++ more) ≡ Record s
+  pub head_longer : (rules : List ℕ) {s : Summary} → head_of rules bs ≡ Ok s → head_of rules (bs ++ more) ≡ Ok s
   unfolding head_of
   head_longer rules e =
       let told = record_told rules bs e in
@@ -92,7 +92,7 @@ module _ (bs more : List ℕ) where
       let there = size_there bs word flags refl told.found in
       ap (λ (w : ℕ). head_with (bs ++ more) w (flags_of rules w)) (word_longer (word_there told.there)).0
       ∙ head_record (bs ++ more) word flags told.there (rw (size_longer word flags sizes there) told.found)
-      ∙ ap Record (summary_longer word flags sizes there ∙ sym told.is)
+      ∙ ap Ok (summary_longer word flags sizes there ∙ sym told.is)
 
   pub head_decided : (rules : List ℕ) → 536 ≤ length bs → head_of rules (bs ++ more) ≡ head_of rules bs
   unfolding head_of head_with

@@ -1,5 +1,5 @@
 -- What the header at the start of some bytes is, as far as a span row needs it (document 01, 'Record header').
-use Rattle.std.specs.Prelude.{ℕ, ◌+◌, ◌*◌, ◌/◌, ◌%◌, List, [], ◌∷◌, Bool, cond, ◌||◌, eqb, ltb, length, get_or}
+use Rattle.std.specs.Prelude.{ℕ, ◌+◌, ◌*◌, ◌/◌, ◌%◌, List, [], ◌∷◌, Bool, cond, ◌||◌, eqb, ltb, length, get_or, Result, Ok, Err}
 use Rattle.answers.specs.Numbers.{done, bad_header, bad_type, ended}
 use Rattle.le.specs.Le.{le}
 use Rattle.rules.specs.Rules.{has, legacy_server, legacy_gpu, legacy_server_box, sizes_in_bytes, flags_of}
@@ -9,8 +9,8 @@ use Rattle.header_judge.specs.declared.Layout.TheVariants.{Zero, One, Two, Three
 use Rattle.header_judge.specs.declared.Shape.{Shape}
 use Rattle.header_judge.specs.declared.origin.Origin.{Origin}
 use Rattle.header_judge.specs.declared.Summary.{Summary}
-use Rattle.header_judge.specs.declared.Head.{Head}
-use Rattle.header_judge.specs.declared.Head.TheVariants.{Ended, BadHeader, BadType, Record}
+use Rattle.header_judge.specs.declared.NoRecord.{NoRecord}
+use Rattle.header_judge.specs.declared.NoRecord.TheVariants.{Ended, BadHeader, BadType}
 
 -- ---- sizes
 
@@ -138,13 +138,17 @@ summary_of bs word flags =
       die = (origin_of bs word flags).die;
     }
 
+-- what one try finds: what the header says of its record, or why there is none
+abbrev pub Head : Type 0
+Head = Result Summary NoRecord
+
 -- the header, where its word and flags are known
 unfoldable pub head_with : List ℕ → ℕ → ℕ → Head
 head_with bs word flags =
-    cond (eqb word no_word) (Ended (ending_of bs))
-    (cond (eqb (size_of bs word flags) no_size) (BadType (header_type word))
-    (cond (eqb (size_of bs word flags) lacking) BadHeader
-    (Record (summary_of bs word flags))))
+    cond (eqb word no_word) (Err (Ended (ending_of bs)))
+    (cond (eqb (size_of bs word flags) no_size) (Err (BadType (header_type word)))
+    (cond (eqb (size_of bs word flags) lacking) (Err BadHeader)
+    (Ok (summary_of bs word flags))))
 
 -- the header at the start of some bytes, under a rule table
 unfoldable pub head_of : List ℕ → List ℕ → Head
@@ -152,14 +156,12 @@ head_of rules bs = head_with bs (word_of bs) (flags_of rules (word_of bs))
 
 -- the bytes that a record declares; 0 where there is none
 unfoldable pub declared_by : Head → ℕ
-declared_by (Ended ending) = 0
-declared_by BadHeader = 0
-declared_by (BadType t) = 0
-declared_by (Record s) = s.declared
+declared_by (Err why) = 0
+declared_by (Ok s) = s.declared
 
 -- document 01's number of each case
 abbrev pub number_of : Head → ℕ
-number_of (Ended ending) = ended
-number_of BadHeader = bad_header
-number_of (BadType t) = bad_type
-number_of (Record s) = done
+number_of (Err (Ended ending)) = ended
+number_of (Err BadHeader) = bad_header
+number_of (Err (BadType t)) = bad_type
+number_of (Ok s) = done

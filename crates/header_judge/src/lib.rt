@@ -53,13 +53,12 @@ pub struct Summary {
     pub die: u32,
 }
 
-// What one try finds.
+// Why one try finds no record.
 #[derive(Clone, Copy, Debug, PartialEq, Eq)]
-pub enum Head {
+pub enum NoRecord {
     Ended(Ending),
     BadHeader,
     BadType(u32),
-    Record(Summary),
 }
 
 // What `size_of` gives in the place of a size: the type is bad.
@@ -258,27 +257,27 @@ pub fn summary_of(s: &[u8], word: u32, flags: u32, declared: usize, size: usize)
 
 // What one try finds, where the header's word and flags are known.
 #[tactic(auto, using(crate::proofs::Sizes::bad_from_seven), unfolding(crate::specs::Head::head_with))]
-pub fn judge_with(s: &[u8], word: u32, flags: u32) -> Head
+pub fn judge_with(s: &[u8], word: u32, flags: u32) -> Result<Summary, NoRecord>
     ensures value { result ≡ head_with s.now word flags }
     ensures head_bounds { HeadBounds result }
 {
     if word == NO_WORD {
-        return Head::Ended(ending_of(s));
+        return Err(NoRecord::Ended(ending_of(s)));
     }
     let size = size_of(s, word, flags);
     if size == NO_SIZE {
-        return Head::BadType(word / 256 % 16);
+        return Err(NoRecord::BadType(word / 256 % 16));
     }
     if size == LACKING {
-        return Head::BadHeader;
+        return Err(NoRecord::BadHeader);
     }
     let declared = declared_of(s, flags);
-    Head::Record(summary_of(s, word, flags, declared, size))
+    Ok(summary_of(s, word, flags, declared, size))
 }
 
 // What one try finds.
 #[tactic(auto, unfolding(crate::specs::Head::head_of))]
-pub fn judge(s: &[u8], rules: &[u32]) -> Head
+pub fn judge(s: &[u8], rules: &[u32]) -> Result<Summary, NoRecord>
     ensures value { result ≡ head_of rules.now s.now }
     ensures head_bounds { HeadBounds result }
 {
