@@ -1,8 +1,9 @@
 -- What inner contracts say of a size and of one try, beside what they are.
-use Rattle.std.specs.Prelude.{ℕ, ◌≤◌, ◌<◌, ◌≡◌, List, length, Ok, Err}
+use Rattle.std.specs.Prelude.{ℕ, ◌≤◌, ◌<◌, ◌≡◌, List, length, Result, Ok, Err, IfOk}
 use Rattle.rules.specs.Rules.{flags_of}
 use Rattle.header_judge.specs.Version.{no_word}
-use Rattle.header_judge.specs.Head.{sizes_end, lacking, Head}
+use Rattle.header_judge.specs.Head.{sizes_end, Head}
+use Rattle.header_judge.specs.declared.NoRecord.{NoRecord}
 use Rattle.header_judge.specs.declared.NoRecord.TheVariants.{Ended, BadHeader, BadType}
 
 -- the flags of a word are known, if it is one
@@ -16,8 +17,8 @@ pub record Sized (bs : List ℕ) (flags size : ℕ) : Type 0 where
   pub within : size ≤ length bs
   pub sizes : sizes_end flags ≤ length bs
 
-abbrev pub Measured : List ℕ → ℕ → ℕ → Type 0
-Measured bs flags size = lacking < size → Sized bs flags size
+abbrev pub Measured : List ℕ → ℕ → Result ℕ NoRecord → Type 0
+Measured bs flags size = IfOk size (Sized bs flags)
 
 -- the bounds of the numbers that one try finds
 abbrev pub HeadBounds : Head → Type 0
