@@ -9,9 +9,8 @@ use native.Mathlib.Nat.{add-zero}
 use lib.Dec.{eqb, leb}
 use lib.ListN.{length, take, drop, length-map}
 use borrow.Author.Tests.{ne_eqb}
-use Rattle.header_judge.specs.declared.Head.{Head}
-use Rattle.header_judge.specs.declared.Head.TheVariants.{Ended, BadHeader, BadType, Record}
-use Rattle.header_judge.specs.Head.{is_box, head_of}
+use Rattle.std.proofs.Common.{Ok, Err}
+use Rattle.header_judge.specs.Head.{is_box, head_of, Head}
 use Rattle.region_rows.specs.declared.Span.{Span}
 use Rattle.region_rows.specs.Rows.{top}
 use Rattle.region_try.specs.Tries.{span_of, Try, none, hit, try_of, deepest, rows_found, Inside, within, onward, records, box_tries, region_tries, all_tries}
@@ -44,14 +43,12 @@ module _ (o n : ℕ) where
   try_moved : (level parent offset left : ℕ) (head : Head)
       → try_of level (parent_moved level parent) (o + offset) left head ≡ moved_try o n (try_of level parent offset left head)
   unfolding try_of moved_try
-  try_moved level parent offset left (Ended ending) = refl
-  try_moved level parent offset left BadHeader = refl
-  try_moved level parent offset left (BadType t) = refl
-  try_moved level parent offset left (Record s) = by (eqb s.declared 0)
+  try_moved level parent offset left (Err why) = refl
+  try_moved level parent offset left (Ok s) = by (eqb s.declared 0)
     where
       by : (b : Bool)
-          → cond b (none level (o + offset) (Record s)) (hit (span_of level (parent_moved level parent) (o + offset) left s))
-          ≡ moved_try o n (cond b (none level offset (Record s)) (hit (span_of level parent offset left s)))
+          → cond b (none level (o + offset) (Ok s)) (hit (span_of level (parent_moved level parent) (o + offset) left s))
+          ≡ moved_try o n (cond b (none level offset (Ok s)) (hit (span_of level parent offset left s)))
       by true = refl
       by false = refl
 

@@ -8,34 +8,29 @@ use Prim.Native.Nat.{ℕ, zero, suc, ◌≤◌, ◌<◌}
 use native.Mathlib.Omega.{arith}
 use lib.Dec.{eqb}
 use borrow.Author.Tests.{eq-eqb, ne_eqb, eqb-false}
+use Rattle.std.proofs.Common.{Result, Ok, Err}
 use Rattle.basics.proofs.Orders.{le_or_lt}
 use Rattle.rules.specs.Rules.{flags_of}
 use Rattle.header_judge.specs.Version.{no_word, word_of, ending_of, header_type}
-use Rattle.header_judge.specs.Head.{no_size, lacking, size_of, declared_of, summary_of, head_with, head_of, declared_by}
+use Rattle.header_judge.specs.Head.{size_of, declared_of, summary_of, Complete, Head, head_sized, head_with, head_of, declared_by}
 use Rattle.header_judge.specs.Steps.{Known}
 use Rattle.header_judge.specs.declared.Summary.{Summary}
-use Rattle.header_judge.specs.declared.Head.TheVariants.{Ended, BadHeader, BadType, Record}
+use Rattle.header_judge.specs.declared.NoRecord.{NoRecord}
+use Rattle.header_judge.specs.declared.NoRecord.TheVariants.{Ended}
+use Rattle.header_judge.proofs.Sizes.{complete}
 
 module _ (bs : List ℕ) (word flags : ℕ) where
-  pub head_ended : word ≡ no_word → head_with bs word flags ≡ Ended (ending_of bs)
+  pub head_ended : word ≡ no_word → head_with bs word flags ≡ Err (Ended (ending_of bs))
   unfolding head_with
   head_ended e = rw (eq-eqb word no_word e)
 
-  pub head_bad_type : (word ≡ no_word → ⊥) → size_of bs word flags ≡ no_size → head_with bs word flags ≡ BadType (header_type word)
+  pub head_none : (word ≡ no_word → ⊥) → {why : NoRecord} → size_of bs word flags ≡ Err why → head_with bs word flags ≡ Err why
   unfolding head_with
-  head_bad_type f e = rw (ne_eqb word no_word f, eq-eqb (size_of bs word flags) no_size e)
+  head_none f e = rw (ne_eqb word no_word f, e)
 
-  pub head_bad_header : (word ≡ no_word → ⊥) → size_of bs word flags ≡ lacking → head_with bs word flags ≡ BadHeader
+  pub head_record : (word ≡ no_word → ⊥) → Complete bs word flags → head_with bs word flags ≡ Ok (summary_of bs word flags)
   unfolding head_with
-  head_bad_header f e = rw (ne_eqb word no_word f, e)
-
-  pub head_record : (word ≡ no_word → ⊥) → lacking < size_of bs word flags
-      → head_with bs word flags ≡ Record (summary_of bs word flags)
-  unfolding head_with
-  head_record f h =
-      let no-type : size_of bs word flags ≡ no_size → ⊥ = λ e. omega arith in
-      let no-lack : size_of bs word flags ≡ lacking → ⊥ = λ e. omega arith in
-      rw (ne_eqb word no_word f, ne_eqb (size_of bs word flags) no_size no-type, ne_eqb (size_of bs word flags) lacking no-lack)
+  head_record f h = rw (ne_eqb word no_word f, h)
 
   -- ---- the bytes that are declared
 
@@ -44,16 +39,11 @@ module _ (bs : List ℕ) (word flags : ℕ) where
   declared_ended e = sym (ap declared_by (head_ended e))
 
   module _ (there : word ≡ no_word → ⊥) where
-    pub declared_sizeless : size_of bs word flags ≤ lacking → 0 ≡ declared_by (head_with bs word flags)
+    pub declared_none : {why : NoRecord} → size_of bs word flags ≡ Err why → 0 ≡ declared_by (head_with bs word flags)
     unfolding declared_by
-    declared_sizeless h = by (size_of bs word flags) refl h
-      where
-        by : (size : ℕ) → size_of bs word flags ≡ size → size ≤ lacking → 0 ≡ declared_by (head_with bs word flags)
-        by zero e g = sym (ap declared_by (head_bad_type there e))
-        by (suc zero) e g = sym (ap declared_by (head_bad_header there e))
-        by (suc (suc n)) e g = absurd (omega arith)
+    declared_none e = sym (ap declared_by (head_none there e))
 
-    pub declared_record : lacking < size_of bs word flags → declared_of bs flags ≡ declared_by (head_with bs word flags)
+    pub declared_record : Complete bs word flags → declared_of bs flags ≡ declared_by (head_with bs word flags)
     unfolding declared_by
     declared_record h = sym (ap declared_by (head_record there h))
 
@@ -62,42 +52,36 @@ module _ (bs : List ℕ) (word flags : ℕ) where
     pub word_there : word ≡ no_word → ⊥
     word_there e = let none : 0 ≡ declared_by (head_with bs word flags) = declared_ended e in omega arith
 
-    pub header_there : lacking < size_of bs word flags
-    header_there =
-        ⊎_elim (λ h. let none : 0 ≡ declared_by (head_with bs word flags) = declared_sizeless word_there h in absurd (omega arith)) (λ h. h)
-        (le_or_lt (size_of bs word flags) lacking)
+    pub header_there : Complete bs word flags
+    header_there = by (size_of bs word flags) refl
+      where
+        by : (r : Result ℕ NoRecord) → size_of bs word flags ≡ r → Complete bs word flags
+        by (Err why) e = let none : 0 ≡ declared_by (head_with bs word flags) = declared_none word_there e in absurd (omega arith)
+        by (Ok size) e = complete bs word flags e
 
 -- ---- a record that was found
 
 pub record Told (rules bs : List ℕ) (s : Summary) : Type 0 where
   pub there : word_of bs ≡ no_word → ⊥
   pub is : s ≡ summary_of bs (word_of bs) (flags_of rules (word_of bs))
-  pub found : lacking < size_of bs (word_of bs) (flags_of rules (word_of bs))
+  pub found : Complete bs (word_of bs) (flags_of rules (word_of bs))
 
-pub record_told : (rules bs : List ℕ) {s : Summary} → head_of rules bs ≡ Record s → Told rules bs s
+pub record_told : (rules bs : List ℕ) {s : Summary} → head_of rules bs ≡ Ok s → Told rules bs s
 unfolding head_of head_with
-record_told rules bs {s} h = by (eqb w no_word) refl (eqb z no_size) refl (eqb z lacking) refl h
+record_told rules bs {s} h = by (eqb word no_word) refl (size_of bs word flags) refl h
   where
-    w : ℕ
-    w = word_of bs
+    word : ℕ
+    word = word_of bs
 
-    f : ℕ
-    f = flags_of rules w
+    flags : ℕ
+    flags = flags_of rules word
 
-    z : ℕ
-    z = size_of bs w f
-
-    by : (i : Bool) → eqb w no_word ≡ i → (j : Bool) → eqb z no_size ≡ j → (k : Bool) → eqb z lacking ≡ k
-        → cond i (Ended (ending_of bs)) (cond j (BadType (header_type w)) (cond k BadHeader (Record (summary_of bs w f)))) ≡ Record s
+    by : (i : Bool) → eqb word no_word ≡ i → (r : Result ℕ NoRecord) → size_of bs word flags ≡ r
+        → ◌≡◌ {A = Head} (cond i (Err (Ended (ending_of bs))) (head_sized bs word flags r)) (Ok s)
         → Told rules bs s
-    by true i j p k q h = absurd (let o : ◌≡◌ {A = ℕ} 0 1 = cc in omega arith)
-    by false i true p k q h = absurd (let o : ◌≡◌ {A = ℕ} 0 1 = cc in omega arith)
-    by false i false p true q h = absurd (let o : ◌≡◌ {A = ℕ} 0 1 = cc in omega arith)
-    by false i false p false q h =
-        let is : s ≡ summary_of bs w f = cc in
-        let some : z ≡ no_size → ⊥ = eqb-false z no_size p in
-        let more : z ≡ lacking → ⊥ = eqb-false z lacking q in
-        record { there = eqb-false w no_word i; is = is; found = omega arith }
+    by true i r e h = absurd (let o : ◌≡◌ {A = ℕ} 0 1 = cc in omega arith)
+    by false i (Err why) e h = absurd (let o : ◌≡◌ {A = ℕ} 0 1 = cc in omega arith)
+    by false i (Ok size) e h = record { there = eqb-false word no_word i; is = cc; found = complete bs word flags e }
 
 -- the flags of a word that is none do not matter
 pub head_known : (rules bs : List ℕ) (word flags : ℕ) → word ≡ word_of bs → Known rules word flags

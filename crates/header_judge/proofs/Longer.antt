@@ -8,16 +8,17 @@ use native.Mathlib.Omega.{arith}
 use lib.Dec.{eqb, ltb}
 use lib.ListN.{length, take, drop, length-append, length-take, take-append-drop, get_or-append}
 use borrow.Author.Tests.{le-ltb, ltb-false}
+use Rattle.std.proofs.Common.{Result, Ok, Err}
 use Rattle.le.specs.Le.{le}
 use Rattle.le.proofs.Laws.{le_same}
 use Rattle.rules.specs.Rules.{flags_of}
 use Rattle.header_judge.specs.Version.{no_word, end_mark, word_of, ending_of}
-use Rattle.header_judge.specs.Head.{legacy, sizes_end, declared_of, layout_of, size_for, count_of, size_of, origin_in, origin_of, summary_of, head_with, head_of}
+use Rattle.header_judge.specs.Head.{legacy, sizes_end, declared_of, layout_of, size_for, count_of, layout_size, size_of, origin_in, origin_of, summary_of, head_sized, head_with, head_of}
 use Rattle.header_judge.specs.declared.Layout.{Layout}
 use Rattle.header_judge.specs.declared.Layout.TheVariants.{Zero, One, Two, Three, Four, Five, Six, LegacyServer, LegacyGpu, Bad}
 use Rattle.header_judge.specs.declared.Summary.{Summary}
-use Rattle.header_judge.specs.declared.Head.TheVariants.{Record}
-use Rattle.header_judge.proofs.Sizes.{legacy_end, plain_end, sizes_most, count_most, enough_there, size_long, size_found, size_there, size_most}
+use Rattle.header_judge.specs.declared.NoRecord.{NoRecord}
+use Rattle.header_judge.proofs.Sizes.{legacy_end, plain_end, sizes_most, count_most, size_long, size_found, size_there, size_most}
 use Rattle.header_judge.proofs.Heads.{head_record, record_told}
 
 module _ (bs more : List ℕ) where
@@ -72,27 +73,33 @@ module _ (bs more : List ℕ) where
 
   -- the size fields and the header are there
   module _ (word flags : ℕ) (sizes : sizes_end flags ≤ length bs) (there : size_for (layout_of word flags) (count_of bs) ≤ length bs) where
+    layout_same : layout_size (bs ++ more) word flags ≡ layout_size bs word flags
+    layout_same = (layout_longer (layout_of word flags) word there).0
+
     size_longer : size_of (bs ++ more) word flags ≡ size_of bs word flags
     size_longer =
-        let same = (layout_longer (layout_of word flags) word there).0 in
-        sym (size_long (bs ++ more) word flags (longer sizes)) ∙ sym (enough_there (bs ++ more) _ (rw same (longer there))) ∙ same
-        ∙ enough_there bs _ there ∙ size_long bs word flags sizes
+        size_long (bs ++ more) word flags (longer sizes) (rw layout_same (longer there))
+        ∙ rw layout_same (sym (size_long bs word flags sizes there))
 
     summary_longer : summary_of (bs ++ more) word flags ≡ summary_of bs word flags
     unfolding origin_of
-    summary_longer = rw (declared_longer flags sizes, size_longer, (layout_longer (layout_of word flags) word there).1)
+    summary_longer = rw (declared_longer flags sizes, layout_same, (layout_longer (layout_of word flags) word there).1)
 
-  pub head_longer : (rules : List ℕ) {s : Summary} → head_of rules bs ≡ Record s → head_of rules (bs ++ more) ≡ Record s
+    head_same : (r : Result ℕ NoRecord) → head_sized (bs ++ more) word flags r ≡ head_sized bs word flags r
+    head_same (Err why) = refl
+    head_same (Ok size) = ap Ok summary_longer
+
+  pub head_longer : (rules : List ℕ) {s : Summary} → head_of rules bs ≡ Ok s → head_of rules (bs ++ more) ≡ Ok s
   unfolding head_of
   head_longer rules e =
       let told = record_told rules bs e in
       let word = word_of bs in
       let flags = flags_of rules word in
-      let sizes = (size_found bs word flags told.found).0 in
+      let sizes = (size_found bs word flags told.found).sizes in
       let there = size_there bs word flags refl told.found in
       ap (λ (w : ℕ). head_with (bs ++ more) w (flags_of rules w)) (word_longer (word_there told.there)).0
-      ∙ head_record (bs ++ more) word flags told.there (rw (size_longer word flags sizes there) told.found)
-      ∙ ap Record (summary_longer word flags sizes there ∙ sym told.is)
+      ∙ head_record (bs ++ more) word flags told.there (size_longer word flags sizes there ∙ told.found ∙ ap Ok (sym (layout_same word flags sizes there)))
+      ∙ ap Ok (summary_longer word flags sizes there ∙ sym told.is)
 
   pub head_decided : (rules : List ℕ) → 536 ≤ length bs → head_of rules (bs ++ more) ≡ head_of rules bs
   unfolding head_of head_with
@@ -102,7 +109,7 @@ module _ (bs more : List ℕ) where
       let sizes : sizes_end flags ≤ length bs = omega (arith, sizes_most flags) in
       let there : size_for (layout_of word flags) (count_of bs) ≤ length bs = omega (arith, size_most (layout_of word flags) (count_of bs) (count_most bs)) in
       let same = word_longer (omega arith) in
-      rw (same.0, same.1, summary_longer word flags sizes there, size_longer word flags sizes there)
+      rw (same.0, same.1, size_longer word flags sizes there, head_same word flags sizes there (size_of bs word flags))
 
 -- so bytes that have the same first 536 have the same header
 pub head_start : (bs cs : List ℕ) (rules : List ℕ) → 536 ≤ length bs → 536 ≤ length cs → take 536 bs ≡ take 536 cs → head_of rules bs ≡ head_of rules cs

@@ -1,20 +1,23 @@
 -- Sizes and layouts: what is known of a size that is found, and of the types that have none.
 -- By the tests of the definitions, in their order. Assumes nothing.
-use mathlib.Core.Path.{◌≡◌, refl, ◌∙◌}
+use mathlib.Core.Path.{◌≡◌, refl, ap, ◌∙◌}
 use mathlib.Core.Bool.{Bool, true, false, cond, ◌||◌}
 use mathlib.Core.List.{List}
 use mathlib.Core.Logic.{◌⊎◌, ⊎_elim, inl, inr}
 use Prim.Native.Nat.{ℕ, zero, suc, ◌+◌, ◌*◌, ◌%◌, ◌≤◌, ◌<◌}
 use native.Mathlib.Omega.{arith}
-use lib.Dec.{ltb}
+use lib.Dec.{eqb, ltb}
 use lib.ListN.{length, get_or}
-use borrow.Author.Tests.{le-ltb, ltb-false}
+use borrow.Author.Tests.{le-ltb, ltb-false, eqb-true, eqb-false}
+use Rattle.std.proofs.Common.{Result, Ok, Err}
 use Rattle.le.specs.Le.{le}
 use Rattle.le.proofs.Laws.{le_lt}
 use Rattle.rules.specs.Rules.{has, legacy_server, legacy_gpu, sizes_in_bytes}
 use Rattle.header_judge.specs.Version.{header_type}
-use Rattle.header_judge.specs.Head.{legacy, sizes_end, declared_of, type_layout, layout_of, no_size, lacking, size_for, count_of, enough, size_of}
-use Rattle.header_judge.specs.Steps.{Measured}
+use Rattle.header_judge.specs.Head.{legacy, sizes_end, declared_of, type_layout, layout_of, no_size, size_for, count_of, layout_size, size_of, Complete}
+use Rattle.header_judge.specs.Steps.{Measured, HeadBounds}
+use Rattle.header_judge.specs.declared.NoRecord.{NoRecord}
+use Rattle.header_judge.specs.declared.NoRecord.TheVariants.{Ended, BadHeader, BadType}
 use Rattle.header_judge.specs.declared.Layout.{Layout}
 use Rattle.header_judge.specs.declared.Layout.TheVariants.{Zero, One, Two, Three, Four, Five, Six, LegacyServer, LegacyGpu, Bad}
 
@@ -58,9 +61,6 @@ module _ (bs : List ℕ) where
       by true = omega arith
       by false = omega arith
 
-  pub enough_there : (size : ℕ) → size ≤ length bs → size ≡ enough bs size
-  enough_there size h = rw (le-ltb (length bs) size h)
-
 -- ---- the layout
 
 module _ (word flags : ℕ) where
@@ -84,31 +84,46 @@ module _ (word flags : ℕ) where
 -- ---- a size that is found
 
 module _ (bs : List ℕ) (word flags : ℕ) where
-  pub size_long : sizes_end flags ≤ length bs → enough bs (size_for (layout_of word flags) (count_of bs)) ≡ size_of bs word flags
+  -- where the size fields and the header are there, the type alone decides
+  pub size_long : sizes_end flags ≤ length bs → layout_size bs word flags ≤ length bs
+      → size_of bs word flags ≡ cond (eqb (layout_size bs word flags) no_size) (Err (BadType (header_type word))) (Ok (layout_size bs word flags))
   unfolding size_of
-  size_long h = rw (le-ltb (length bs) (sizes_end flags) h)
+  size_long h g = rw (le-ltb (length bs) (sizes_end flags) h, le-ltb (length bs) (layout_size bs word flags) g)
 
-  -- a size that is found is that of the layout
-  pub size_found : lacking < size_of bs word flags
-      → (sizes_end flags ≤ length bs) × (size_of bs word flags ≡ size_for (layout_of word flags) (count_of bs)) × (size_of bs word flags ≤ length bs)
+  -- a size that is found is that of the layout, and its bytes are there
+  pub record Found (size : ℕ) : Type 0 where
+    pub sizes : sizes_end flags ≤ length bs
+    pub is : size ≡ layout_size bs word flags
+    pub within : layout_size bs word flags ≤ length bs
+    pub some : layout_size bs word flags ≡ no_size → ⊥
+
+  pub size_found : {size : ℕ} → size_of bs word flags ≡ Ok size → Found size
   unfolding size_of
-  size_found h = by (ltb (length bs) (sizes_end flags)) refl (ltb (length bs) size) refl h
+  size_found {size = found} h = by (ltb (length bs) (sizes_end flags)) refl (eqb size no_size) refl (ltb (length bs) size) refl h
     where
       size : ℕ
-      size = size_for (layout_of word flags) (count_of bs)
+      size = layout_size bs word flags
 
-      by : (b : Bool) → ltb (length bs) (sizes_end flags) ≡ b → (k : Bool) → ltb (length bs) size ≡ k
-          → lacking < cond b lacking (cond k lacking size)
-          → (sizes_end flags ≤ length bs) × (cond b lacking (cond k lacking size) ≡ size) × (cond b lacking (cond k lacking size) ≤ length bs)
-      by true e k f h = absurd (omega arith)
-      by false e true f h = absurd (omega arith)
-      by false e false f h = (ltb-false (length bs) (sizes_end flags) e, refl, ltb-false (length bs) size f)
+      by : (b : Bool) → ltb (length bs) (sizes_end flags) ≡ b → (j : Bool) → eqb size no_size ≡ j → (k : Bool) → ltb (length bs) size ≡ k
+          → ◌≡◌ {A = Result ℕ NoRecord} (cond b (Err BadHeader) (cond j (Err (BadType (header_type word))) (cond k (Err BadHeader) (Ok size)))) (Ok found)
+          → Found found
+      by true e j f k g h = absurd (let z : ◌≡◌ {A = ℕ} 0 1 = cc in omega arith)
+      by false e true f k g h = absurd (let z : ◌≡◌ {A = ℕ} 0 1 = cc in omega arith)
+      by false e false f true g h = absurd (let z : ◌≡◌ {A = ℕ} 0 1 = cc in omega arith)
+      by false e false f false g h =
+          record {
+            sizes = ltb-false (length bs) (sizes_end flags) e;
+            is = cc;
+            within = ltb-false (length bs) size g;
+            some = eqb-false size no_size f;
+          }
+
+  pub complete : {size : ℕ} → size_of bs word flags ≡ Ok size → Complete bs word flags
+  complete h = h ∙ ap Ok (size_found h).is
 
 -- the bytes of its layout are there
-pub size_there : (bs : List ℕ) (word flags : ℕ) {l : Layout} → l ≡ layout_of word flags → lacking < size_of bs word flags → size_for l (count_of bs) ≤ length bs
-size_there bs word flags e h =
-    let found = size_found bs word flags h in
-    rw (e, ← found.1) found.2
+pub size_there : (bs : List ℕ) (word flags : ℕ) {l : Layout} → l ≡ layout_of word flags → Complete bs word flags → size_for l (count_of bs) ≤ length bs
+size_there bs word flags e h = rw e (size_found bs word flags h).within
 
 -- ---- the bounds of a size
 
@@ -130,13 +145,16 @@ size_most l count h = ⊎_elim (λ none. omega arith) (λ some. some.1) (size_bo
 
 -- the size that `size_of` finds
 pub measured : (bs : List ℕ) (word flags : ℕ) → Measured bs flags (size_of bs word flags)
-measured bs word flags h =
-    let found = size_found bs word flags h in
-    let size : size_of bs word flags ≡ size_for (layout_of word flags) (count_of bs) = found.1 in
-    ⊎_elim
-    (λ none. absurd (omega arith))
-    (λ some. record { least = rw size some.0; most = rw size some.1; within = found.2; sizes = found.0 })
-    (size_bounds (layout_of word flags) (count_of bs) (count_most bs))
+measured bs word flags = by (size_of bs word flags) refl
+  where
+    by : (r : Result ℕ NoRecord) → size_of bs word flags ≡ r → Measured bs flags r
+    by (Err why) e = tt
+    by (Ok size) e =
+        let found = size_found bs word flags e in
+        ⊎_elim
+        (λ none. absurd (found.some none))
+        (λ some. record { least = rw found.is some.0; most = rw found.is some.1; within = rw found.is found.within; sizes = found.sizes })
+        (size_bounds (layout_of word flags) (count_of bs) (count_most bs))
 
 -- ---- a bad type
 
@@ -163,16 +181,24 @@ bad_seven (suc (suc (suc (suc (suc zero))))) e = absurd (let z : ◌≡◌ {A = 
 bad_seven (suc (suc (suc (suc (suc (suc zero)))))) e = absurd (let z : ◌≡◌ {A = ℕ} 0 1 = cc in omega arith)
 bad_seven (suc (suc (suc (suc (suc (suc (suc t))))))) e = omega arith
 
-pub bad_from_seven : (bs : List ℕ) (word flags : ℕ) → size_of bs word flags ≡ no_size → 7 ≤ header_type word
+-- the bounds of the type that is told
+pub none_bounds : (bs : List ℕ) (word flags : ℕ) {why : NoRecord} → size_of bs word flags ≡ Err why → HeadBounds (Err why)
 unfolding size_of
-bad_from_seven bs word flags z = by (ltb (length bs) (sizes_end flags)) (ltb (length bs) size) (legacy flags) refl z
+none_bounds bs word flags {why = Ended ending} h = tt
+none_bounds bs word flags {why = BadHeader} h = tt
+none_bounds bs word flags {why = BadType t} h = by (ltb (length bs) (sizes_end flags)) (eqb size no_size) refl (ltb (length bs) size) (legacy flags) refl h
   where
     size : ℕ
-    size = size_for (layout_of word flags) (count_of bs)
+    size = layout_size bs word flags
 
-    by : (b k l : Bool) → legacy flags ≡ l → cond b lacking (cond k lacking size) ≡ no_size → 7 ≤ header_type word
-    by true k l f e = absurd (omega arith)
-    by false true l f e = absurd (omega arith)
-    by false false true f e = absurd (omega (arith, legacy_size word flags (count_of bs) f))
-    by false false false f e =
-        bad_seven (header_type word) (plain_layout word flags f ∙ size_none (layout_of word flags) (count_of bs) e)
+    by : (b j : Bool) → eqb size no_size ≡ j → (k l : Bool) → legacy flags ≡ l
+        → ◌≡◌ {A = Result ℕ NoRecord} (cond b (Err BadHeader) (cond j (Err (BadType (header_type word))) (cond k (Err BadHeader) (Ok size)))) (Err (BadType t))
+        → (7 ≤ t) × (t < 16)
+    by true j e k l f h = absurd (let z : ◌≡◌ {A = ℕ} 0 1 = cc in omega arith)
+    by false false e true l f h = absurd (let z : ◌≡◌ {A = ℕ} 0 1 = cc in omega arith)
+    by false false e false l f h = absurd (let z : ◌≡◌ {A = ℕ} 0 1 = cc in omega arith)
+    by false true e k true f h = absurd (omega (arith, eqb-true size no_size e, legacy_size word flags (count_of bs) f))
+    by false true e k false f h =
+        let told : header_type word ≡ t = cc in
+        let bad : type_layout (header_type word) ≡ Bad = plain_layout word flags f ∙ size_none (layout_of word flags) (count_of bs) (eqb-true size no_size e) in
+        (rw (← told) (bad_seven (header_type word) bad), omega arith)

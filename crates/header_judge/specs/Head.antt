@@ -1,5 +1,5 @@
 -- What the header at the start of some bytes is, as far as a span row needs it (document 01, 'Record header').
-use Rattle.std.specs.Prelude.{ℕ, ◌+◌, ◌*◌, ◌/◌, ◌%◌, List, [], ◌∷◌, Bool, cond, ◌||◌, eqb, ltb, length, get_or}
+use Rattle.std.specs.Prelude.{ℕ, ◌≡◌, ◌+◌, ◌*◌, ◌/◌, ◌%◌, List, [], ◌∷◌, Bool, cond, ◌||◌, eqb, ltb, length, get_or, Option, Some, None, Result, Ok, Err}
 use Rattle.answers.specs.Numbers.{done, bad_header, bad_type, ended}
 use Rattle.le.specs.Le.{le}
 use Rattle.rules.specs.Rules.{has, legacy_server, legacy_gpu, legacy_server_box, sizes_in_bytes, flags_of}
@@ -9,8 +9,8 @@ use Rattle.header_judge.specs.declared.Layout.TheVariants.{Zero, One, Two, Three
 use Rattle.header_judge.specs.declared.Shape.{Shape}
 use Rattle.header_judge.specs.declared.origin.Origin.{Origin}
 use Rattle.header_judge.specs.declared.Summary.{Summary}
-use Rattle.header_judge.specs.declared.Head.{Head}
-use Rattle.header_judge.specs.declared.Head.TheVariants.{Ended, BadHeader, BadType, Record}
+use Rattle.header_judge.specs.declared.NoRecord.{NoRecord}
+use Rattle.header_judge.specs.declared.NoRecord.TheVariants.{Ended, BadHeader, BadType}
 
 -- ---- sizes
 
@@ -51,13 +51,9 @@ layout_of word flags =
 
 -- ---- header size
 
--- what stands for a size where there is none: the type is bad
+-- what a layout has that has no size
 abbrev pub no_size : ℕ
 no_size = 0
-
--- or bytes are lacking
-abbrev pub lacking : ℕ
-lacking = 1
 
 -- the size of a layout's header, with so many status words
 abbrev pub size_for : Layout → ℕ → ℕ
@@ -76,18 +72,27 @@ size_for Bad count = no_size
 abbrev pub count_of : List ℕ → ℕ
 count_of bs = cond (ltb (length bs) 28) 0 (le 2 bs 26 % 128)
 
--- the layout that a header type chooses, and the header's size
-abbrev pub shape_of : List ℕ → ℕ → Shape
-shape_of bs t = record { layout = type_layout t; size = size_for (type_layout t) (count_of bs) }
+-- the layout that a header type chooses, and the header's size; a bad type chooses none
+abbrev pub shape_of : List ℕ → ℕ → Option Shape
+shape_of bs t = cond (ltb t 7) (Some (record { layout = type_layout t; size = size_for (type_layout t) (count_of bs) })) None
 
--- a size, where there are so many bytes
-abbrev pub enough : List ℕ → ℕ → ℕ
-enough bs size = cond (ltb (length bs) size) lacking size
+-- the size of the header's layout
+abbrev pub layout_size : List ℕ → ℕ → ℕ → ℕ
+layout_size bs word flags = size_for (layout_of word flags) (count_of bs)
 
--- the header's size, or that bytes are lacking, or that its type is bad; the sizes are read before the type is judged
-unfoldable pub size_of : List ℕ → ℕ → ℕ → ℕ
+-- a layout's size, where its type is not bad and so many bytes are there
+abbrev pub sized : List ℕ → ℕ → ℕ → Result ℕ NoRecord
+sized bs word size =
+    cond (eqb size no_size) (Err (BadType (header_type word))) (cond (ltb (length bs) size) (Err BadHeader) (Ok size))
+
+-- the header's size, or why there is none; the sizes are read before the type is judged
+unfoldable pub size_of : List ℕ → ℕ → ℕ → Result ℕ NoRecord
 size_of bs word flags =
-    cond (ltb (length bs) (sizes_end flags)) lacking (enough bs (size_for (layout_of word flags) (count_of bs)))
+    cond (ltb (length bs) (sizes_end flags)) (Err BadHeader) (sized bs word (layout_size bs word flags))
+
+-- a header all of whose bytes are there
+abbrev pub Complete : List ℕ → ℕ → ℕ → Type 0
+Complete bs word flags = size_of bs word flags ≡ Ok (layout_size bs word flags)
 
 -- ---- socket and die
 
@@ -133,18 +138,23 @@ summary_of bs word flags =
       word = word;
       flags = flags;
       declared = declared_of bs flags;
-      size = size_of bs word flags;
+      size = layout_size bs word flags;
       socket = (origin_of bs word flags).socket;
       die = (origin_of bs word flags).die;
     }
 
+-- what one try finds: what the header says of its record, or why there is none
+abbrev pub Head : Type 0
+Head = Result Summary NoRecord
+
+-- the header, by its size
+abbrev pub head_sized : List ℕ → ℕ → ℕ → Result ℕ NoRecord → Head
+head_sized bs word flags (Err why) = Err why
+head_sized bs word flags (Ok size) = Ok (summary_of bs word flags)
+
 -- the header, where its word and flags are known
 unfoldable pub head_with : List ℕ → ℕ → ℕ → Head
-head_with bs word flags =
-    cond (eqb word no_word) (Ended (ending_of bs))
-    (cond (eqb (size_of bs word flags) no_size) (BadType (header_type word))
-    (cond (eqb (size_of bs word flags) lacking) BadHeader
-    (Record (summary_of bs word flags))))
+head_with bs word flags = cond (eqb word no_word) (Err (Ended (ending_of bs))) (head_sized bs word flags (size_of bs word flags))
 
 -- the header at the start of some bytes, under a rule table
 unfoldable pub head_of : List ℕ → List ℕ → Head
@@ -152,14 +162,12 @@ head_of rules bs = head_with bs (word_of bs) (flags_of rules (word_of bs))
 
 -- the bytes that a record declares; 0 where there is none
 unfoldable pub declared_by : Head → ℕ
-declared_by (Ended ending) = 0
-declared_by BadHeader = 0
-declared_by (BadType t) = 0
-declared_by (Record s) = s.declared
+declared_by (Err why) = 0
+declared_by (Ok s) = s.declared
 
 -- document 01's number of each case
 abbrev pub number_of : Head → ℕ
-number_of (Ended ending) = ended
-number_of BadHeader = bad_header
-number_of (BadType t) = bad_type
-number_of (Record s) = done
+number_of (Err (Ended ending)) = ended
+number_of (Err BadHeader) = bad_header
+number_of (Err (BadType t)) = bad_type
+number_of (Ok s) = done

@@ -2,9 +2,10 @@
 // The walk calls the parts, which are numbers; `judge` and the decoder are made of the same parts.
 #![tactic(auto)]
 
-ghost use Rattle.std.specs.Prelude.{◌≡◌, ◌+◌, ◌*◌, ◌≤◌, ◌<◌, length};
+ghost use Rattle.header_judge.specs.declared.NoRecord.TheVariants.{BadHeader};
+ghost use Rattle.std.specs.Prelude.{Ok, Err, cond, ltb, ◌≡◌, ◌+◌, ◌*◌, ◌≤◌, ◌<◌, length};
 ghost use Rattle.header_judge.specs.Steps.{Measured, HeadBounds};
-ghost use Rattle.header_judge.specs.Head.{legacy, record_size, extended_size, sizes_end, unit, declared_of, count_of, shape_of, layout_of, enough, lacking, size_of, is_box, summary_of, head_with, head_of, declared_by};
+ghost use Rattle.header_judge.specs.Head.{legacy, record_size, extended_size, sizes_end, unit, declared_of, count_of, shape_of, layout_of, size_of, is_box, summary_of, head_with, head_of, declared_by};
 
 pub mod origin;
 pub mod version;
@@ -53,20 +54,13 @@ pub struct Summary {
     pub die: u32,
 }
 
-// What one try finds.
+// Why one try finds no record.
 #[derive(Clone, Copy, Debug, PartialEq, Eq)]
-pub enum Head {
+pub enum NoRecord {
     Ended(Ending),
     BadHeader,
     BadType(u32),
-    Record(Summary),
 }
-
-// What `size_of` gives in the place of a size: the type is bad.
-pub const NO_SIZE: usize = 0;
-
-// Or bytes are lacking.
-pub const LACKING: usize = 1;
 
 const BOX: u32 = 0x3d;
 
@@ -147,45 +141,20 @@ pub fn count_of(s: &[u8]) -> usize
 }
 
 // The layout and the header size that a header type chooses.
-pub fn shape_of(s: &[u8], header_type: u32) -> Shape
-    requires { header_type < 16 }
+pub fn shape_of(s: &[u8], header_type: u32) -> Option<Shape>
     ensures { result ≡ shape_of s.now header_type }
 {
-    match header_type {
-        0 => Shape {
-            layout: Layout::Zero,
-            size: 8,
-        },
-        1 => Shape {
-            layout: Layout::One,
-            size: 8,
-        },
-        2 => Shape {
-            layout: Layout::Two,
-            size: 24,
-        },
-        3 => Shape {
-            layout: Layout::Three,
-            size: 28,
-        },
-        4 => Shape {
-            layout: Layout::Four,
-            size: 32,
-        },
-        5 => Shape {
-            layout: Layout::Five,
-            size: 32,
-        },
-        6 => Shape {
-            layout: Layout::Six,
-            size: 28 + 4 * count_of(s),
-        },
-        7..=15 => Shape {
-            layout: Layout::Bad,
-            size: NO_SIZE,
-        },
-        _ => unreachable!(),
-    }
+    let (layout, size) = match header_type {
+        0 => (Layout::Zero, 8),
+        1 => (Layout::One, 8),
+        2 => (Layout::Two, 24),
+        3 => (Layout::Three, 28),
+        4 => (Layout::Four, 32),
+        5 => (Layout::Five, 32),
+        6 => (Layout::Six, 28 + 4 * count_of(s)),
+        _ => return None,
+    };
+    Some(Shape { layout, size })
 }
 
 // The layout that the flags choose, or else the header type; no type's layout depends on the bytes.
@@ -198,43 +167,51 @@ pub fn layout_of(word: u32, flags: u32) -> Layout
     if rules::has_flag(flags, rules::LEGACY_GPU) {
         return Layout::LegacyGpu;
     }
-    let shape = shape_of(b"", word / 256 % 16);
-    shape.layout
+    match shape_of(b"", word / 256 % 16) {
+        Some(shape) => shape.layout,
+        None => Layout::Bad,
+    }
 }
 
-// A header size, or LACKING where there are fewer bytes.
-fn sized(s: &[u8], size: usize) -> usize
-    ensures { result ≡ enough s.now size }
+// A header's size, where so many bytes are there.
+fn held(s: &[u8], size: usize) -> Result<usize, NoRecord>
+    ensures { result ≡ cond (ltb (length s.now) size) (Err BadHeader) (Ok size) }
 {
-    if s.len() < size { LACKING } else { size }
+    if s.len() < size {
+        return Err(NoRecord::BadHeader);
+    }
+    Ok(size)
 }
 
-// The header's size, or NO_SIZE, or LACKING.
+// The header's size, or why there is none.
 #[tactic(auto, using(crate::proofs::Sizes::measured), unfolding(crate::specs::Head::size_of))]
-pub fn size_of(s: &[u8], word: u32, flags: u32) -> usize
+pub fn size_of(s: &[u8], word: u32, flags: u32) -> Result<usize, NoRecord>
     ensures value { result ≡ size_of s.now word flags }
     ensures measured { Measured s.now flags result }
 {
     if is_legacy(flags) {
-        return sized(s, 32);
+        return held(s, 32);
     }
     if s.len() < 8 {
-        return LACKING;
+        return Err(NoRecord::BadHeader);
     }
-    let shape = shape_of(s, word / 256 % 16);
-    sized(s, shape.size)
+    let header_type = word / 256 % 16;
+    match shape_of(s, header_type) {
+        Some(shape) => held(s, shape.size),
+        None => Err(NoRecord::BadType(header_type)),
+    }
 }
 
 // The bytes that the record declares, where its header's size is known: 0 where no record is.
 #[tactic(auto, unfolding(crate::specs::Head::head_with, crate::specs::Head::declared_by))]
-pub fn declared_in(s: &[u8], word: u32, flags: u32, size: usize) -> usize
+pub fn declared_in(s: &[u8], word: u32, flags: u32, size: Result<usize, NoRecord>) -> usize
     requires { (size ≡ size_of s.now word flags) × Measured s.now flags size }
     ensures { (result ≡ declared_by (head_with s.now word flags)) × (result ≤ 524280) }
 {
     if word == NO_WORD {
         return 0;
     }
-    if size <= LACKING {
+    if size.is_err() {
         return 0;
     }
     declared_of(s, flags)
@@ -242,7 +219,7 @@ pub fn declared_in(s: &[u8], word: u32, flags: u32, size: usize) -> usize
 
 // What a header says of its record, where its sizes are known.
 pub fn summary_of(s: &[u8], word: u32, flags: u32, declared: usize, size: usize) -> Summary
-    requires { (declared ≡ declared_of s.now flags) × (size ≡ size_of s.now word flags) × (lacking < size) }
+    requires { (declared ≡ declared_of s.now flags) × (size_of s.now word flags ≡ Ok size) }
     ensures { result ≡ summary_of s.now word flags }
 {
     let origin = origin_of(s, word, flags);
@@ -257,28 +234,22 @@ pub fn summary_of(s: &[u8], word: u32, flags: u32, declared: usize, size: usize)
 }
 
 // What one try finds, where the header's word and flags are known.
-#[tactic(auto, using(crate::proofs::Sizes::bad_from_seven), unfolding(crate::specs::Head::head_with))]
-pub fn judge_with(s: &[u8], word: u32, flags: u32) -> Head
+#[tactic(auto, using(crate::proofs::Sizes::none_bounds), unfolding(crate::specs::Head::head_with))]
+pub fn judge_with(s: &[u8], word: u32, flags: u32) -> Result<Summary, NoRecord>
     ensures value { result ≡ head_with s.now word flags }
     ensures head_bounds { HeadBounds result }
 {
     if word == NO_WORD {
-        return Head::Ended(ending_of(s));
+        return Err(NoRecord::Ended(ending_of(s)));
     }
-    let size = size_of(s, word, flags);
-    if size == NO_SIZE {
-        return Head::BadType(word / 256 % 16);
-    }
-    if size == LACKING {
-        return Head::BadHeader;
-    }
+    let size = size_of(s, word, flags)?;
     let declared = declared_of(s, flags);
-    Head::Record(summary_of(s, word, flags, declared, size))
+    Ok(summary_of(s, word, flags, declared, size))
 }
 
 // What one try finds.
 #[tactic(auto, unfolding(crate::specs::Head::head_of))]
-pub fn judge(s: &[u8], rules: &[u32]) -> Head
+pub fn judge(s: &[u8], rules: &[u32]) -> Result<Summary, NoRecord>
     ensures value { result ≡ head_of rules.now s.now }
     ensures head_bounds { HeadBounds result }
 {

@@ -1,6 +1,6 @@
 // The socket and the die that a header names (document 02, C-17).
 ghost use Rattle.std.specs.Prelude.{◌≡◌, ◌<◌};
-ghost use Rattle.header_judge.specs.Head.{lacking, size_of, server_die, origin_of};
+ghost use Rattle.header_judge.specs.Head.{Complete, server_die, origin_of};
 
 use crate::{Layout, layout_of};
 use le::LittleEndian;
@@ -29,7 +29,7 @@ pub fn server_die(revision: u32) -> u8
 // By the header's layout; its bytes are there.
 #[tactic(auto, unfolding(crate::specs::Head::origin_of))]
 pub fn origin_of(s: &[u8], word: u32, flags: u32) -> Origin
-    requires { lacking < size_of s.now word flags }
+    requires { Complete s.now word flags }
     ensures { result ≡ origin_of s.now word flags }
 {
     let layout = layout_of(word, flags);

@@ -10,10 +10,9 @@ use native.Mathlib.Nat.{add-zero}
 use lib.Dec.{eqb, leb}
 use lib.ListN.{length, take, drop, length-take, length-drop}
 use borrow.Author.Tests.{eqb-false, leb-true}
+use Rattle.std.proofs.Common.{Ok, Err}
 use Rattle.basics.proofs.Orders.{le_or_lt}
-use Rattle.header_judge.specs.declared.Head.{Head}
-use Rattle.header_judge.specs.declared.Head.TheVariants.{Ended, BadHeader, BadType, Record}
-use Rattle.header_judge.specs.Head.{is_box, head_of}
+use Rattle.header_judge.specs.Head.{is_box, head_of, Head}
 use Rattle.region_rows.specs.declared.Span.{Span}
 use Rattle.region_try.specs.Tries.{span_of, Try, none, hit, try_of, deepest, rows_found, Inside, within, onward, records, box_tries, region_tries}
 use Rattle.region_try.proofs.Tries.{rows_append}
@@ -34,10 +33,8 @@ module _ (level : ℕ) (box : Inside) (nests : Nests (suc level) box) where
       → ((k m : ℕ) → Nest level parent (offset + suc k) (offset + length bs) m (rows_found (rest k m)))
       → Nest level parent offset (offset + length bs) n (rows_found (onward box bs n (try_of level parent offset (length bs) head) rest))
   unfolding onward try_of rows_found
-  onward_nests parent offset bs n (Ended ending) rest p f = bare
-  onward_nests parent offset bs n BadHeader rest p f = bare
-  onward_nests parent offset bs n (BadType t) rest p f = bare
-  onward_nests parent offset bs n (Record s) rest p f = by (eqb s.declared 0) refl
+  onward_nests parent offset bs n (Err why) rest p f = bare
+  onward_nests parent offset bs n (Ok s) rest p f = by (eqb s.declared 0) refl
     where
       row : Span
       row = span_of level parent offset (length bs) s
@@ -49,7 +46,7 @@ module _ (level : ℕ) (box : Inside) (nests : Nests (suc level) box) where
       m = n + 1 + length (rows_found tries)
 
       by : (b : Bool) → eqb s.declared 0 ≡ b
-          → Nest level parent offset (offset + length bs) n (rows_found (onward box bs n (cond b (none level offset (Record s)) (hit row)) rest))
+          → Nest level parent offset (offset + length bs) n (rows_found (onward box bs n (cond b (none level offset (Ok s)) (hit row)) rest))
       by true e = bare
       by false e =
           let some : s.declared ≡ 0 → ⊥ = eqb-false s.declared 0 e in

@@ -10,11 +10,10 @@ use native.Mathlib.Nat.{add-zero}
 use lib.ListN.{length, take, drop, length-append, length-drop, drop_of_length-le}
 use lib.Seq.{drop-drop, drop-append-le}
 use borrow.Author.Tests.{le-leb, lt-leb}
+use Rattle.std.proofs.Common.{Ok}
 use Rattle.basics.proofs.Orders.{le_or_lt}
 use Rattle.header_judge.specs.declared.Summary.{Summary}
-use Rattle.header_judge.specs.declared.Head.{Head}
-use Rattle.header_judge.specs.declared.Head.TheVariants.{Record}
-use Rattle.header_judge.specs.Head.{is_box, head_of}
+use Rattle.header_judge.specs.Head.{is_box, head_of, Head}
 use Rattle.header_judge.proofs.Longer.{head_longer}
 use Rattle.region_rows.specs.declared.Span.{Span}
 use Rattle.region_rows.specs.Rows.{top}
@@ -42,7 +41,7 @@ onward_counted bytes n m (hit r) rest f =
     (ap (λ (vs : List Try). hit r ∷ vs) (f (r.declared - 1) _ _))
 
 -- a record that has all its bytes is found whatever follows them
-left_counts : (offset left more : ℕ) (s : Summary) → s.declared ≤ left → s.declared ≤ more → try_of 0 top offset left (Record s) ≡ try_of 0 top offset more (Record s)
+left_counts : (offset left more : ℕ) (s : Summary) → s.declared ≤ left → s.declared ≤ more → try_of 0 top offset left (Ok s) ≡ try_of 0 top offset more (Ok s)
 unfolding try_of
 left_counts offset left more s h g = let same : min s.declared left ≡ min s.declared more = omega arith in rw same
 
@@ -166,7 +165,7 @@ module _ (rules : List ℕ) where
   -- a record that is all in is so in all bytes that have its header and length
   pub complete_alike : (bs cs : List ℕ) (offset : ℕ) (r : Span) → head_of rules cs ≡ head_of rules bs → Complete bs offset r → r.declared ≤ length cs → Complete cs offset r
   complete_alike bs cs offset r e c enough =
-      let head : head_of rules bs ≡ Record (summary_in r) = (top_whence bs offset r c.is).is in
+      let head : head_of rules bs ≡ Ok (summary_in r) = (top_whence bs offset r c.is).is in
       let same : top_try cs offset ≡ top_try bs offset =
       ap (try_of 0 top offset (length cs)) (e ∙ head)
       ∙ left_counts offset (length cs) (length bs) (summary_in r) enough c.enough
@@ -236,7 +235,7 @@ module _ (rules : List ℕ) where
   complete_longer : (bytes more : List ℕ) (offset : ℕ) (r : Span) → Complete bytes offset r → Complete (bytes ++ more) offset r
   complete_longer bytes more offset r c =
       let enough = c.enough in
-      let head : head_of rules bytes ≡ Record (summary_in r) = (top_whence bytes offset r c.is).is in
+      let head : head_of rules bytes ≡ Ok (summary_in r) = (top_whence bytes offset r c.is).is in
       complete_alike bytes (bytes ++ more) offset r (head_longer bytes more rules head ∙ sym head) c (simp length-append (omega arith))
 
   pub arrived_longer : (more bytes : List ℕ) (offset : ℕ)

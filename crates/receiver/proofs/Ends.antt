@@ -8,11 +8,11 @@ use native.Mathlib.Nat.{add-zero}
 use native.Mathlib.Omega.{arith}
 use lib.ListN.{length}
 use borrow.Author.Tests.{eq-eqb, ne_eqb, lt-leb}
+use Rattle.std.proofs.Common.{Ok, Err}
 use Rattle.header_judge.specs.declared.version.Ending.{Ending}
 use Rattle.header_judge.specs.declared.Summary.{Summary}
-use Rattle.header_judge.specs.declared.Head.{Head}
-use Rattle.header_judge.specs.declared.Head.TheVariants.{Ended, BadHeader, BadType, Record}
-use Rattle.header_judge.specs.Head.{head_of}
+use Rattle.header_judge.specs.declared.NoRecord.TheVariants.{Ended, BadHeader, BadType}
+use Rattle.header_judge.specs.Head.{head_of, Head}
 use Rattle.region_rows.specs.Rows.{width, top, with_span, laid}
 use Rattle.region_rows.proofs.Rows.{stored_none, stored_more, stored_laid, laid_none}
 use Rattle.region_try.specs.Stops.{stop_ended, stop_by, stop_of, bad_type_of}
@@ -36,29 +36,29 @@ AtLevel l (hit r) = Unit {0}
 
 module _ (offset held rows : ℕ) (whole : Bool) (t : List ℕ) where
   -- no record
-  pub end_ended : {head : Head} {ending : Ending} → head ≡ Ended ending
+  pub end_ended : {head : Head} {ending : Ending} → head ≡ Err (Ended ending)
       → end_at (try_of 0 top offset held head) rows whole t ≡ (t, listing_at rows 0 (rows + 1) (whole && clean_stop (stop_ended ending)) (stop_ended ending) 0)
   unfolding try_of end_at
   end_ended e = rw e
 
-  pub end_bad_header : {head : Head} → head ≡ BadHeader
+  pub end_bad_header : {head : Head} → head ≡ Err BadHeader
       → end_at (try_of 0 top offset held head) rows whole t ≡ (t, listing_at rows 0 (rows + 1) (whole && clean_stop Stop.BadHeader) Stop.BadHeader 0)
   unfolding try_of end_at
   end_bad_header e = rw e
 
-  pub end_bad_type : {head : Head} {type : ℕ} → head ≡ BadType type
+  pub end_bad_type : {head : Head} {type : ℕ} → head ≡ Err (BadType type)
       → end_at (try_of 0 top offset held head) rows whole t ≡ (t, listing_at rows 0 (rows + 1) (whole && clean_stop Stop.BadType) Stop.BadType type)
   unfolding try_of end_at
   end_bad_type e = rw e
 
   -- a record that declares no byte
-  pub end_empty : {head : Head} (s : Summary) → head ≡ Record s → s.declared ≡ 0
+  pub end_empty : {head : Head} (s : Summary) → head ≡ Ok s → s.declared ≡ 0
       → end_at (try_of 0 top offset held head) rows whole t ≡ (t, listing_at rows 0 (rows + 1) (whole && clean_stop SizeZero) SizeZero 0)
   unfolding try_of end_at
   end_empty s is e = rw (is, eq-eqb s.declared 0 e)
 
   -- and one that lacks bytes
-  pub end_short : {head : Head} (s : Summary) → head ≡ Record s → (s.declared ≡ 0 → ⊥) → bytes_in held head ≡ 0
+  pub end_short : {head : Head} (s : Summary) → head ≡ Ok s → (s.declared ≡ 0 → ⊥) → bytes_in held head ≡ 0
       → end_at (try_of 0 top offset held head) rows whole t ≡ (with_span t 0 (span_of 0 top offset held s), listing_at (rows + 1) 1 (rows + 1) false EndOfInput 0)
   unfolding try_of end_at keeps_whole
   end_short s is some waits =

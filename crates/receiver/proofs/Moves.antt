@@ -9,9 +9,9 @@ use native.Mathlib.Nat.{add-zero}
 use native.Mathlib.Omega.{arith}
 use lib.ListN.{length, take, drop, replicate, length-append, length-take, length-replicate}
 use lib.Seq.{drop-drop, take_all, drop-append-add}
+use Rattle.std.proofs.Common.{Ok}
 use Rattle.basics.proofs.Orders.{le_or_lt}
 use Rattle.header_judge.specs.declared.Summary.{Summary}
-use Rattle.header_judge.specs.declared.Head.TheVariants.{Record}
 use Rattle.header_judge.specs.Head.{head_of}
 use Rattle.header_judge.proofs.Longer.{head_decided}
 use Rattle.region_rows.specs.Rows.{top, with_span}
@@ -43,7 +43,7 @@ module _ (rules bytes : List ℕ) (offset rows : ℕ) (whole : Bool) (kept t : L
   moved_none e = let none : arrived rules bytes offset ≡ [] = waits_here rules bytes offset e in rw (none, stored_none t rows, add-zero rows, add-zero offset)
 
   -- a record goes before
-  pub moved_record : (s : Summary) → head_of rules bytes ≡ Record s → 0 < s.declared → s.declared ≤ length bytes
+  pub moved_record : (s : Summary) → head_of rules bytes ≡ Ok s → 0 < s.declared → s.declared ≤ length bytes
       → (let r = span_of 0 top offset (length bytes) s in
       moved_of rules bytes offset rows whole kept t ≡ moved_of rules (drop s.declared bytes) (offset + s.declared) (rows + 1) (whole && keeps_whole (hit r)) kept (with_span t rows r))
   unfolding moved_of extent whole_with
@@ -99,7 +99,7 @@ module _ (rules : List ℕ) (held : ℕ) (kept piece : List ℕ) (long : length 
       ap (head_of rules) (append_assoc front zeros piece) ∙ head_decided front (zeros ++ piece) rules (rw all (omega arith))
 
   -- so a record with fewer bytes than are held, which was not all in, begins in kept bytes
-  pub small_kept : (s : Summary) → head_of rules came ≡ Record s → 0 < s.declared → bytes_in held (head_of rules front) ≡ 0 → s.declared < held → held ≤ most_kept
+  pub small_kept : (s : Summary) → head_of rules came ≡ Ok s → 0 < s.declared → bytes_in held (head_of rules front) ≡ 0 → s.declared < held → held ≤ most_kept
   small_kept s is some waits small =
       ⊎_elim
       (λ (few : held ≤ most_kept). few)
@@ -116,7 +116,7 @@ module _ (rules : List ℕ) (held : ℕ) (kept piece : List ℕ) (long : length 
 
   module _ (offset rows : ℕ) (whole : Bool) (t : List ℕ) where
     -- so the piece's own bytes, walked after it, end as all do
-    pub record_then : (s : Summary) → head_of rules came ≡ Record s → 0 < s.declared → held ≤ s.declared → s.declared ≤ held + length piece
+    pub record_then : (s : Summary) → head_of rules came ≡ Ok s → 0 < s.declared → held ≤ s.declared → s.declared ≤ held + length piece
         → (taken own t₁ : List ℕ) (declared : ℕ) (keeps : Bool) → own ≡ drop (declared - held) piece → declared ≡ s.declared
         → (let r = span_of 0 top offset (held + length piece) s in t₁ ≡ with_span t rows r → keeps ≡ keeps_whole (hit r)
         → moved_of rules own (offset + declared) (rows + 1) (whole && keeps) taken t₁ ≡ moved_of rules came offset rows whole taken t)

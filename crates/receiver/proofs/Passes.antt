@@ -8,8 +8,8 @@ use native.Mathlib.Nat.{add-zero, zero-add}
 use native.Mathlib.Omega.{arith}
 use lib.ListN.{length, drop, length-drop}
 use lib.Seq.{drop-drop}
+use Rattle.std.proofs.Common.{Ok}
 use Rattle.header_judge.specs.declared.Summary.{Summary}
-use Rattle.header_judge.specs.declared.Head.TheVariants.{Record}
 use Rattle.header_judge.specs.Head.{head_of}
 use Rattle.region_rows.specs.declared.Span.{Span}
 use Rattle.region_rows.specs.Rows.{top, with_span, stored}
@@ -60,7 +60,7 @@ module _ (rules bytes : List ℕ) (base : ℕ) where
       unfolding pass_from
       from_none e = after_none at rows whole t (waits_here rules (drop at bytes) (base + at) (rw (length-drop at bytes) e))
 
-      pub from_record : (s : Summary) → head_of rules (drop at bytes) ≡ Record s → 0 < s.declared → s.declared ≤ length bytes - at
+      pub from_record : (s : Summary) → head_of rules (drop at bytes) ≡ Ok s → 0 < s.declared → s.declared ≤ length bytes - at
           → (let r = span_of 0 top (base + at) (length bytes - at) s in
           pass_from at rows whole t ≡ pass_from (at + s.declared) (rows + 1) (whole && keeps_whole (hit r)) (with_span t rows r))
       unfolding pass_from

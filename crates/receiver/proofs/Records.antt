@@ -9,11 +9,10 @@ use native.Mathlib.Omega.{arith}
 use lib.Dec.{eqb, leb, ltb}
 use lib.ListN.{length}
 use borrow.Author.Tests.{lt-leb, le-leb, leb-true, leb-false, ne_eqb}
+use Rattle.std.proofs.Common.{Ok, Err}
 use Rattle.basics.proofs.Orders.{le_or_lt}
-use Rattle.header_judge.specs.Head.{lacking, size_of, declared_of, is_box, summary_of, head_with, head_of, declared_by}
+use Rattle.header_judge.specs.Head.{lacking, size_of, declared_of, is_box, summary_of, head_with, head_of, declared_by, Head}
 use Rattle.header_judge.specs.declared.Summary.{Summary}
-use Rattle.header_judge.specs.declared.Head.{Head}
-use Rattle.header_judge.specs.declared.Head.TheVariants.{Ended, BadHeader, BadType, Record}
 use Rattle.header_judge.proofs.Heads as heads
 use Rattle.header_judge.proofs.Heads.{head_record, declared_record}
 use Rattle.region_rows.specs.declared.Span.{Span}
@@ -28,7 +27,7 @@ use Rattle.receiver.proofs.Arrived.{top_try, top_whence, Complete, arrived_end, 
 
 pub record Full (left : ℕ) (head : Head) : Type 0 where
   pub summary : Summary
-  pub is : head ≡ Record summary
+  pub is : head ≡ Ok summary
   pub some : 0 < summary.declared
   pub fits : summary.declared ≤ left
   pub bytes : bytes_in left head ≡ summary.declared
@@ -44,12 +43,10 @@ no_bytes left head e h = by (leb 0 left) (rw e at h)
 
 pub full : (left : ℕ) (head : Head) → 0 < bytes_in left head → Full left head
 unfolding bytes_in declared_by
-full left (Ended ending) h = absurd (no_bytes left (Ended ending) refl h)
-full left BadHeader h = absurd (no_bytes left BadHeader refl h)
-full left (BadType t) h = absurd (no_bytes left (BadType t) refl h)
-full left (Record s) h = by (leb s.declared left) refl h
+full left (Err why) h = absurd (no_bytes left (Err why) refl h)
+full left (Ok s) h = by (leb s.declared left) refl h
   where
-    by : (b : Bool) → leb s.declared left ≡ b → 0 < cond b s.declared 0 → Full left (Record s)
+    by : (b : Bool) → leb s.declared left ≡ b → 0 < cond b s.declared 0 → Full left (Ok s)
     by true e h = record { summary = s; is = refl; some = h; fits = leb-true s.declared left e; bytes = rw e }
     by false e h = absurd (omega arith)
 
@@ -63,7 +60,7 @@ bytes_within left head = by (leb (declared_by head) left) refl
     by false e = omega arith
 
 -- a record that is not all in lacks bytes
-pub lacks_bytes : (left : ℕ) (s : Summary) → 0 < s.declared → bytes_in left (Record s) ≡ 0 → left < s.declared
+pub lacks_bytes : (left : ℕ) (s : Summary) → 0 < s.declared → bytes_in left (Ok s) ≡ 0 → left < s.declared
 unfolding bytes_in declared_by
 lacks_bytes left s some no_bytes = by (leb s.declared left) refl no_bytes
   where
@@ -104,7 +101,7 @@ module _ (bs : List ℕ) (word flags left : ℕ) where
     bytes_there = rw says fits
 
     -- and is that record
-    pub read_record : head ≡ Record (summary_of bs word flags)
+    pub read_record : head ≡ Ok (summary_of bs word flags)
     read_record = head_record bs word flags (heads.word_there bs word flags declares) header_there
 
     pub read_bytes : bytes_in left head ≡ declared_of bs flags
@@ -112,7 +109,7 @@ module _ (bs : List ℕ) (word flags left : ℕ) where
 
 -- what a head says of its record, where bytes of it are all in
 pub record Read (bs : List ℕ) (word flags left declared : ℕ) (head : Head) : Type 0 where
-  pub is : head ≡ Record (summary_of bs word flags)
+  pub is : head ≡ Ok (summary_of bs word flags)
   pub declares : declared ≡ (summary_of bs word flags).declared
   pub some : 0 < (summary_of bs word flags).declared
   pub fits : (summary_of bs word flags).declared ≤ left
@@ -148,7 +145,7 @@ module _ (rules bytes : List ℕ) (offset : ℕ) where
   abbrev pub row_of : Summary → Span
   row_of s = span_of 0 top offset (length bytes) s
 
-  pub complete_here : (s : Summary) → here ≡ Record s → 0 < s.declared → s.declared ≤ length bytes → Complete rules bytes offset (row_of s)
+  pub complete_here : (s : Summary) → here ≡ Ok s → 0 < s.declared → s.declared ≤ length bytes → Complete rules bytes offset (row_of s)
   unfolding try_of
   complete_here s is some fits =
       let declares : eqb s.declared 0 ≡ false = ne_eqb s.declared 0 (λ e. omega arith) in

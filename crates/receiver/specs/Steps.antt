@@ -1,7 +1,6 @@
 -- What the inner functions of the receiver give: a record that is all in, those of some bytes, and what is kept after them.
 use Rattle.std.specs.Prelude.{ℕ, ◌+◌, ◌-◌, List, ◌++◌, Bool, cond, ◌&&◌, eqb, leb, length, take, drop, replicate}
-use Rattle.header_judge.specs.Head.{declared_by}
-use Rattle.header_judge.specs.declared.Head.{Head}
+use Rattle.header_judge.specs.Head.{declared_by, Head}
 use Rattle.region_rows.specs.Rows.{with_span, stored, laid}
 use Rattle.region_try.specs.Stops.{stop_by, bad_type_by}
 use Rattle.region_try.specs.Tries.{Try, none, hit, rows_found}

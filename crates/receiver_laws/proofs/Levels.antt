@@ -9,10 +9,9 @@ use native.Mathlib.Omega.{arith}
 use lib.Dec.{eqb, leb}
 use lib.ListN.{length, take, drop}
 use borrow.Author.Tests.{eq-eqb, ne_eqb, eqb-true, eqb-false}
+use Rattle.std.proofs.Common.{Ok, Err}
 use Rattle.basics.proofs.Orders.{le_or_lt}
-use Rattle.header_judge.specs.Head.{is_box, head_of}
-use Rattle.header_judge.specs.declared.Head.{Head}
-use Rattle.header_judge.specs.declared.Head.TheVariants.{Ended, BadHeader, BadType, Record}
+use Rattle.header_judge.specs.Head.{is_box, head_of, Head}
 use Rattle.region_rows.specs.declared.Span.{Span}
 use Rattle.region_rows.specs.Rows.{top}
 use Rattle.region_try.specs.Stops.{Standing, header, stop_of, stop_number}
@@ -29,12 +28,10 @@ use Rattle.receiver_laws.specs.Received.{level_of, level_zero, listing_by, told_
 -- a try is of its region's level
 try_level : (level parent offset left : ℕ) (head : Head) → level_of (try_of level parent offset left head) ≡ level
 unfolding try_of
-try_level level parent offset left (Ended ending) = refl
-try_level level parent offset left BadHeader = refl
-try_level level parent offset left (BadType t) = refl
-try_level level parent offset left (Record s) = by (eqb s.declared 0)
+try_level level parent offset left (Err why) = refl
+try_level level parent offset left (Ok s) = by (eqb s.declared 0)
   where
-    by : (b : Bool) → level_of (cond b (none level offset (Record s)) (hit (span_of level parent offset left s))) ≡ level
+    by : (b : Bool) → level_of (cond b (none level offset (Ok s)) (hit (span_of level parent offset left s))) ≡ level
     by true = refl
     by false = refl
 

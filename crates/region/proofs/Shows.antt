@@ -13,8 +13,7 @@ use borrow.Author.Tests.{lt-ltb, le-ltb, ltb-false}
 use Rattle.answers.specs.Numbers.{most_bytes}
 use Rattle.basics.proofs.Orders.{le_or_lt}
 use Rattle.rules.specs.Rules.{valid_of}
-use Rattle.header_judge.specs.Head.{is_box}
-use Rattle.header_judge.specs.declared.Head.{Head}
+use Rattle.header_judge.specs.Head.{is_box, Head}
 use Rattle.region_rows.specs.declared.Span.{Span}
 use Rattle.region_rows.specs.Rows.{width, top, most_rows, capacity, with_span, laid, stored}
 use Rattle.region_rows.proofs.Rows.{stored_none, stored_more, stored_laid}

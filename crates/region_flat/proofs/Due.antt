@@ -10,8 +10,7 @@ use lib.ListN.{length, get_or, take, drop, set, length-take, length-drop, length
 use lib.Seq.{get_or-set_same, get_or-set_other, drop-drop, take-take, take_all}
 use Rattle.basics.proofs.Orders.{le_or_lt}
 use Rattle.basics.proofs.Parts.{drop-take}
-use Rattle.header_judge.specs.declared.Head.{Head}
-use Rattle.header_judge.specs.Head.{head_of}
+use Rattle.header_judge.specs.Head.{head_of, Head}
 use Rattle.region_rows.specs.declared.Span.{Span}
 use Rattle.region_try.specs.Tries.{Try, none, hit, try_of, deepest, rows_found, within, box_tries, region_tries}
 use Rattle.region_try.proofs.Tries.{rows_append, records_end, records_first, records_stop, records_hit}

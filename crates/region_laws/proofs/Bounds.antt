@@ -6,12 +6,12 @@ use mathlib.Core.Bool.{true, false}
 use Prim.Native.Nat.{ℕ, ◌*◌, ◌%◌, ◌≤◌}
 use native.Mathlib.Omega.{arith}
 use lib.ListN.{length}
+use Rattle.std.proofs.Common.{Ok}
 use Rattle.rules.specs.Rules.{has, sizes_in_bytes, rules_of, flags_of, none_has}
 use Rattle.rules.proofs.Laws.{flags_lack}
 use Rattle.header_judge.specs.Version.{word_of}
 use Rattle.header_judge.specs.Head.{declared_of, head_of}
 use Rattle.header_judge.specs.declared.Summary.{Summary}
-use Rattle.header_judge.specs.declared.Head.TheVariants.{Record}
 use Rattle.region_try.specs.Tries.{deepest, all_tries}
 use Rattle.region_rows.specs.Rows.{top, capacity}
 use Rattle.region.specs.Listing.{walked, listed}
@@ -31,7 +31,7 @@ unfolding declared_of
 declared_fours bs flags e = rw e (omega arith)
 
 module _ (rules : List ℕ) (words : none_has sizes_in_bytes (rules_of rules) ≡ true) where
-  record_fours : (bs : List ℕ) (s : Summary) → head_of rules bs ≡ Record s → s.declared % 4 ≡ 0
+  record_fours : (bs : List ℕ) (s : Summary) → head_of rules bs ≡ Ok s → s.declared % 4 ≡ 0
   record_fours bs s e =
       let word = word_of bs in
       rw (record_told rules bs e).is (declared_fours bs (flags_of rules word) (flags_lack rules word 3 words))

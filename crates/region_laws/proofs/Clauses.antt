@@ -9,11 +9,10 @@ use native.Mathlib.Omega.{arith}
 use lib.Dec.{eqb, leb, ltb}
 use lib.ListN.{length, take, drop}
 use borrow.Author.Tests.{eq-eqb, eqb-true, le-leb, leb-true, ltb-true, lt-ltb, not-true}
+use Rattle.std.proofs.Common.{Ok, Err}
 use Rattle.basics.proofs.Bools.{both}
 use Rattle.basics.proofs.Orders.{le_or_lt}
-use Rattle.header_judge.specs.declared.Head.{Head}
-use Rattle.header_judge.specs.declared.Head.TheVariants.{Ended, BadHeader, BadType, Record}
-use Rattle.header_judge.specs.Head.{is_box, head_of}
+use Rattle.header_judge.specs.Head.{is_box, head_of, Head}
 use Rattle.region_rows.specs.declared.Span.{Span}
 use Rattle.region_rows.specs.Rows.{top, capacity}
 use Rattle.region_rows.proofs.Rows.{spans_laid}
@@ -118,10 +117,8 @@ module _ (rules : List ℕ) where
         → all stops_clean (onward box (b ∷ bs) n (try_of level parent offset (length (b ∷ bs)) head) rest)
         ≡ (clean_in (drop (onto head (λ skip. reach rules skip bs)) (b ∷ bs)) && all clean (following (regions offset) (b ∷ bs) head after))
     unfolding onward try_of by_head all
-    onward_clean level parent offset b bs n (Ended ending) rest after e go = rw e
-    onward_clean level parent offset b bs n BadHeader rest after e go = rw e
-    onward_clean level parent offset b bs n (BadType t) rest after e go = rw e
-    onward_clean level parent offset b bs n (Record s) rest after e go = by (eqb s.declared 0)
+    onward_clean level parent offset b bs n (Err why) rest after e go = rw e
+    onward_clean level parent offset b bs n (Ok s) rest after e go = by (eqb s.declared 0)
       where
         row : Span
         row = span_of level parent offset (length (b ∷ bs)) s
@@ -136,7 +133,7 @@ module _ (rules : List ℕ) where
         later = rest (s.declared - 1) (n + 1 + length (rows_found inner))
 
         by : (b₁ : Bool)
-            → all stops_clean (onward box (b ∷ bs) n (cond b₁ (none level offset (Record s)) (hit row)) rest)
+            → all stops_clean (onward box (b ∷ bs) n (cond b₁ (none level offset (Ok s)) (hit row)) rest)
             ≡ (clean_in (drop (cond b₁ 0 (suc (reach rules (s.declared - 1) bs))) (b ∷ bs)) && all clean (cond b₁ [] (held ++ after (s.declared - 1))))
         by true = rw e
         by false =

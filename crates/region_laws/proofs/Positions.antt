@@ -6,9 +6,8 @@ use mathlib.Core.Bool.{Bool, true, false, cond}
 use Prim.Native.Nat.{ℕ, zero, suc, ◌+◌, ◌-◌}
 use lib.Dec.{eqb, leb}
 use lib.ListN.{length, take, drop, length-map}
-use Rattle.header_judge.specs.declared.Head.{Head}
-use Rattle.header_judge.specs.declared.Head.TheVariants.{Ended, BadHeader, BadType, Record}
-use Rattle.header_judge.specs.Head.{is_box, head_of}
+use Rattle.std.proofs.Common.{Ok, Err}
+use Rattle.header_judge.specs.Head.{is_box, head_of, Head}
 use Rattle.region_rows.specs.declared.Span.{Span}
 use Rattle.region_rows.specs.Rows.{top}
 use Rattle.region_try.specs.Tries.{span_of, Try, none, hit, try_of, deepest, rows_found, Inside, within, onward, records, box_tries, region_tries, all_tries}
@@ -39,10 +38,8 @@ module _ (rules : List ℕ) where
         → ((k m : ℕ) → offsets (rest k m) ≡ after k)
         → offsets (onward box bs n (try_of level parent offset (length bs) head) rest) ≡ offset ∷ following (inside offset) bs head after
     unfolding onward try_of by_head
-    onward_at level parent offset bs n (Ended ending) rest after e = refl
-    onward_at level parent offset bs n BadHeader rest after e = refl
-    onward_at level parent offset bs n (BadType t) rest after e = refl
-    onward_at level parent offset bs n (Record s) rest after e = by (eqb s.declared 0)
+    onward_at level parent offset bs n (Err why) rest after e = refl
+    onward_at level parent offset bs n (Ok s) rest after e = by (eqb s.declared 0)
       where
         row : Span
         row = span_of level parent offset (length bs) s
@@ -51,7 +48,7 @@ module _ (rules : List ℕ) where
         tries = within box (take s.declared bs) row n
 
         by : (b : Bool)
-            → offsets (onward box bs n (cond b (none level offset (Record s)) (hit row)) rest)
+            → offsets (onward box bs n (cond b (none level offset (Ok s)) (hit row)) rest)
             ≡ offset ∷ cond b [] (cond (is_box s.word s.flags) (inside offset (take s.declared bs) s.size) [] ++ after (s.declared - 1))
         by true = refl
         by false =

@@ -8,10 +8,10 @@ use Prim.Native.Nat.{ℕ, zero, suc, ◌+◌, ◌-◌, ◌≤◌}
 use native.Mathlib.Omega.{arith}
 use lib.Dec.{eqb}
 use lib.ListN.{length, take, drop, length-drop}
+use Rattle.std.proofs.Common.{Ok, Err}
 use Rattle.header_judge.specs.Version.{ending_number}
-use Rattle.header_judge.specs.declared.Head.{Head}
-use Rattle.header_judge.specs.declared.Head.TheVariants.{Ended, BadHeader, BadType, Record}
-use Rattle.header_judge.specs.Head.{head_of}
+use Rattle.header_judge.specs.declared.NoRecord.TheVariants.{Ended, BadHeader, BadType}
+use Rattle.header_judge.specs.Head.{head_of, Head}
 use Rattle.header_judge.specs.declared.version.Ending.{Ending}
 use Rattle.header_judge.specs.declared.version.Ending.TheVariants.{ZeroWord, DeadbeefWord, FewBytes}
 use Rattle.region_rows.specs.Rows.{top, capacity}
@@ -37,13 +37,11 @@ module _ (rules : List ℕ) where
       → stands_at 0 (onward (box_tries rules deepest) (b ∷ bs) n (try_of 0 parent offset (length (b ∷ bs)) head) rest)
       ≡ standing_in rules (drop (onto head (λ skip. reach rules skip bs)) (b ∷ bs))
   unfolding onward try_of by_head stands_at
-  stands_onward parent offset b bs n (Ended ending) rest e after = ap header (sym e)
-  stands_onward parent offset b bs n BadHeader rest e after = ap header (sym e)
-  stands_onward parent offset b bs n (BadType t) rest e after = ap header (sym e)
-  stands_onward parent offset b bs n (Record s) rest e after = by (eqb s.declared 0)
+  stands_onward parent offset b bs n (Err why) rest e after = ap header (sym e)
+  stands_onward parent offset b bs n (Ok s) rest e after = by (eqb s.declared 0)
     where
       by : (b₁ : Bool)
-          → stands_at 0 (onward (box_tries rules deepest) (b ∷ bs) n (cond b₁ (none 0 offset (Record s)) (hit (span_of 0 parent offset (length (b ∷ bs)) s))) rest)
+          → stands_at 0 (onward (box_tries rules deepest) (b ∷ bs) n (cond b₁ (none 0 offset (Ok s)) (hit (span_of 0 parent offset (length (b ∷ bs)) s))) rest)
           ≡ standing_in rules (drop (cond b₁ 0 (suc (reach rules (s.declared - 1) bs))) (b ∷ bs))
       by true = ap header (sym e)
       by false =
@@ -77,10 +75,10 @@ ended_number DeadbeefWord = omega arith
 ended_number FewBytes = omega arith
 
 header_number : (head : Head) → 2 ≤ stop_number (stop_by head)
-header_number (Ended ending) = ended_number ending
-header_number BadHeader = omega arith
-header_number (BadType t) = omega arith
-header_number (Record s) = omega arith
+header_number (Err (Ended ending)) = ended_number ending
+header_number (Err BadHeader) = omega arith
+header_number (Err (BadType t)) = omega arith
+header_number (Ok s) = omega arith
 
 end_untold : EndOfInput ≡ Untold → ⊥
 end_untold e = let z : stop_number EndOfInput ≡ stop_number Untold = ap stop_number e in omega arith
@@ -152,7 +150,7 @@ module _ (rules bytes : List ℕ) (limit : ℕ) (t : List ℕ) where
   told_stands e = stop_listed ∙ rw e
 
   -- where the records end there, the listing tells what a header's judgement tells of it
-  pub ending_told_lem : told ≡ true → {ending : Ending} {b : ℕ} {bs : List ℕ} → drop (position rules bytes) bytes ≡ b ∷ bs → head_of rules (b ∷ bs) ≡ Ended ending
+  pub ending_told_lem : told ≡ true → {ending : Ending} {b : ℕ} {bs : List ℕ} → drop (position rules bytes) bytes ≡ b ∷ bs → head_of rules (b ∷ bs) ≡ Err (Ended ending)
       → stop_number end.stop ≡ ending_number ending
   ending_told_lem e {ending} d h = ap stop_number (told_stands e) ∙ rw (d, h) (ending_number_lem ending)
 

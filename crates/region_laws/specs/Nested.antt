@@ -1,18 +1,14 @@
 -- The nested walk without tries, rows, limit or table: what is gathered where it opens a region and where it tries a header
 -- (document 01, 'The nested listing').
-use Rattle.std.specs.Prelude.{ℕ, zero, suc, ◌+◌, ◌-◌, List, [], ◌∷◌, ◌++◌, cond, eqb, leb, length, take, drop}
+use Rattle.std.specs.Prelude.{ℕ, zero, suc, ◌+◌, ◌-◌, List, [], ◌∷◌, ◌++◌, cond, eqb, leb, length, take, drop, Ok, Err}
 use Rattle.header_judge.specs.declared.Summary.{Summary}
-use Rattle.header_judge.specs.declared.Head.{Head}
-use Rattle.header_judge.specs.declared.Head.TheVariants.{Ended, BadHeader, BadType, Record}
-use Rattle.header_judge.specs.Head.{is_box, head_of}
+use Rattle.header_judge.specs.Head.{is_box, head_of, Head}
 use Rattle.region_try.specs.Tries.{deepest}
 
 -- by a header: one thing where the region stops there, else another, from what the header says of its record
 unfoldable pub by_head : {A : Type 0} → Head → A → (Summary → A) → A
-by_head (Ended ending) stops goes = stops
-by_head BadHeader stops goes = stops
-by_head (BadType t) stops goes = stops
-by_head (Record s) stops goes = cond (eqb s.declared 0) stops (goes s)
+by_head (Err why) stops goes = stops
+by_head (Ok s) stops goes = cond (eqb s.declared 0) stops (goes s)
 
 -- from a header on: nothing where the region stops; else what a Box has inside, from its held bytes and its header's size, and what the rest has,
 -- which is given the bytes to skip

@@ -1,8 +1,7 @@
 -- How far the walk of a region comes by its own records, what stands there, and with which answers that is told of the top region
 -- (document 02, C-12).
 use Rattle.std.specs.Prelude.{ℕ, zero, suc, ◌-◌, List, [], ◌∷◌, Bool, ◌&&◌, ◌||◌, eqb, leb, drop}
-use Rattle.header_judge.specs.declared.Head.{Head}
-use Rattle.header_judge.specs.Head.{head_of}
+use Rattle.header_judge.specs.Head.{head_of, Head}
 use Rattle.region_try.specs.Stops.{Standing, no_byte, header}
 use Rattle.region_laws.specs.Nested.{by_head}
 

@@ -9,8 +9,8 @@ use native.Mathlib.Omega.{arith}
 use native.Mathlib.Nat.{suc-mul, mul-le-mul_left, sub-zero}
 use lib.Dec.{leb}
 use lib.ListN.{length, take, drop, length-append, length-take, length-drop}
+use Rattle.std.proofs.Common.{Ok}
 use Rattle.header_judge.specs.declared.Summary.{Summary}
-use Rattle.header_judge.specs.declared.Head.TheVariants.{Record}
 use Rattle.header_judge.specs.Head.{is_box, head_of}
 use Rattle.region_rows.specs.declared.Span.{Span}
 use Rattle.region_rows.specs.Rows.{top}
@@ -33,7 +33,7 @@ pub record Units (rules : List ℕ) (u : ℕ → ℕ) : Type 0 where
   pub of_none : u 0 ≡ 0
   pub of_some : (n : ℕ) → 0 < n → 0 < u n
   pub of_more : (m n : ℕ) → m ≤ n → u m ≤ u n
-  pub of_record : (bs : List ℕ) (s : Summary) → head_of rules bs ≡ Record s → (n : ℕ) → u s.declared + u n ≤ u (s.declared + n)
+  pub of_record : (bs : List ℕ) (s : Summary) → head_of rules bs ≡ Ok s → (n : ℕ) → u s.declared + u n ≤ u (s.declared + n)
 
 module _ (rules : List ℕ) (u : ℕ → ℕ) (q : Units rules u) where
   -- at most l tries inside a Box for each unit of its held bytes
@@ -48,7 +48,7 @@ module _ (rules : List ℕ) (u : ℕ → ℕ) (q : Units rules u) where
       by false = omega arith
 
   -- the units of a record's held bytes, and of those after it
-  parted : (bs : List ℕ) (r : Span) → head_of rules bs ≡ Record (summary_in r)
+  parted : (bs : List ℕ) (r : Span) → head_of rules bs ≡ Ok (summary_in r)
       → u (length (take r.declared bs)) + u (length bs - r.declared) ≤ u (length bs)
   parted bs r e = rw (length-take r.declared bs) (⊎_elim
       (λ (h : r.declared ≤ length bs).

@@ -8,11 +8,11 @@ use native.Mathlib.Omega.{arith}
 use lib.Dec.{eqb}
 use lib.ListN.{length}
 use borrow.Author.Tests.{eq-eqb, ne_eqb, eqb-false}
+use Rattle.std.proofs.Common.{Ok, Err}
 use Rattle.header_judge.specs.Version.{no_word, ending_of, header_type}
-use Rattle.header_judge.specs.Head.{no_size, lacking, size_of, declared_of, summary_of}
+use Rattle.header_judge.specs.Head.{no_size, lacking, size_of, declared_of, summary_of, Head}
 use Rattle.header_judge.specs.declared.Summary.{Summary}
-use Rattle.header_judge.specs.declared.Head.{Head}
-use Rattle.header_judge.specs.declared.Head.TheVariants.{Ended, BadHeader, BadType, Record}
+use Rattle.header_judge.specs.declared.NoRecord.TheVariants.{Ended, BadHeader, BadType}
 use Rattle.header_judge.proofs.Heads.{head_ended, head_bad_type, head_bad_header, head_record}
 use Rattle.region_rows.specs.declared.Span.{Span}
 use Rattle.region_try.specs.Stops.{stop_ended, stop_by, bad_type_by}
@@ -38,19 +38,19 @@ module _ (level parent offset : ℕ) (bs : List ℕ) (word flags : ℕ) where
 
   pub ended_stops : word ≡ no_word → Stopped this (stop_ended (ending_of bs)) 0
   unfolding try_of
-  ended_stops e = rw (head_ended bs word flags e) (stopped level offset (Ended (ending_of bs)))
+  ended_stops e = rw (head_ended bs word flags e) (stopped level offset (Err (Ended (ending_of bs))))
 
   pub bad_type_stops : (word ≡ no_word → ⊥) → size_of bs word flags ≡ no_size → Stopped this Stop.BadType (header_type word)
   unfolding try_of
-  bad_type_stops f e = rw (head_bad_type bs word flags f e) (stopped level offset (BadType (header_type word)))
+  bad_type_stops f e = rw (head_bad_type bs word flags f e) (stopped level offset (Err (BadType (header_type word))))
 
   pub bad_header_stops : (word ≡ no_word → ⊥) → size_of bs word flags ≡ lacking → Stopped this Stop.BadHeader 0
   unfolding try_of
-  bad_header_stops f e = rw (head_bad_header bs word flags f e) (stopped level offset BadHeader)
+  bad_header_stops f e = rw (head_bad_header bs word flags f e) (stopped level offset (Err BadHeader))
 
   pub empty_stops : (word ≡ no_word → ⊥) → lacking < size_of bs word flags → declared_of bs flags ≡ 0 → Stopped this Stop.SizeZero 0
   unfolding try_of
-  empty_stops f h e = rw (head_record bs word flags f h, eq-eqb _ _ e) (stopped level offset (Record (summary_of bs word flags)))
+  empty_stops f h e = rw (head_record bs word flags f h, eq-eqb _ _ e) (stopped level offset (Ok (summary_of bs word flags)))
 
   pub record_hit : (word ≡ no_word → ⊥) → lacking < size_of bs word flags → (declared_of bs flags ≡ 0 → ⊥)
       → this ≡ hit (span_of level parent offset (length bs) (summary_of bs word flags))
@@ -64,20 +64,18 @@ summary_in r = record { word = r.word; flags = r.flags; declared = r.declared; s
 -- what the row of a record says of its header and its place
 pub record Whence (depth at left : ℕ) (head : Head) (r : Span) : Type 0 where
   pub level : r.level ≡ depth
-  pub is : head ≡ Record (summary_in r)
+  pub is : head ≡ Ok (summary_in r)
   pub offset : r.offset ≡ at
   pub some : 0 < r.declared
   pub held : r.held ≡ min r.declared left
 
 pub hit_whence : (level parent offset left : ℕ) (head : Head) (r : Span) → try_of level parent offset left head ≡ hit r → Whence level offset left head r
 unfolding try_of
-hit_whence level parent offset left (Ended ending) r e = absurd (let z : ◌≡◌ {A = ℕ} 0 1 = cc in omega arith)
-hit_whence level parent offset left BadHeader r e = absurd (let z : ◌≡◌ {A = ℕ} 0 1 = cc in omega arith)
-hit_whence level parent offset left (BadType t) r e = absurd (let z : ◌≡◌ {A = ℕ} 0 1 = cc in omega arith)
-hit_whence level parent offset left (Record s) r e = by (eqb s.declared 0) refl e
+hit_whence level parent offset left (Err why) r e = absurd (let z : ◌≡◌ {A = ℕ} 0 1 = cc in omega arith)
+hit_whence level parent offset left (Ok s) r e = by (eqb s.declared 0) refl e
   where
-    by : (b : Bool) → eqb s.declared 0 ≡ b → cond b (none level offset (Record s)) (hit (span_of level parent offset left s)) ≡ hit r
-        → Whence level offset left (Record s) r
+    by : (b : Bool) → eqb s.declared 0 ≡ b → cond b (none level offset (Ok s)) (hit (span_of level parent offset left s)) ≡ hit r
+        → Whence level offset left (Ok s) r
     by true k e = absurd (let z : ◌≡◌ {A = ℕ} 0 1 = cc in omega arith)
     by false k e =
         let q : span_of level parent offset left s ≡ r = cc in
@@ -87,11 +85,9 @@ hit_whence level parent offset left (Record s) r e = by (eqb s.declared 0) refl 
 -- a try without a record has the level of its region
 pub none_level : (level parent offset left : ℕ) (head : Head) {l o : ℕ} {h : Head} → try_of level parent offset left head ≡ none l o h → l ≡ level
 unfolding try_of
-none_level level parent offset left (Ended ending) e = cc
-none_level level parent offset left BadHeader e = cc
-none_level level parent offset left (BadType t) e = cc
-none_level level parent offset left (Record s) e = by (eqb s.declared 0) e
+none_level level parent offset left (Err why) e = cc
+none_level level parent offset left (Ok s) e = by (eqb s.declared 0) e
   where
-    by : (b : Bool) {l o : ℕ} {h : Head} → cond b (none level offset (Record s)) (hit (span_of level parent offset left s)) ≡ none l o h → l ≡ level
+    by : (b : Bool) {l o : ℕ} {h : Head} → cond b (none level offset (Ok s)) (hit (span_of level parent offset left s)) ≡ none l o h → l ≡ level
     by true e = cc
     by false e = absurd (let z : ◌≡◌ {A = ℕ} 0 1 = cc in omega arith)

@@ -9,10 +9,9 @@ use lib.Dec.{leb}
 use lib.ListN.{length, take, drop}
 use borrow.Author.Tests.{eq-eqb, ne_eqb}
 use Rattle.header_judge.specs.Version.{ending_number}
-use Rattle.header_judge.specs.Head.{is_box, head_of}
+use Rattle.header_judge.specs.Head.{is_box, head_of, Head}
 use Rattle.header_judge.specs.declared.version.Ending.{Ending}
 use Rattle.header_judge.specs.declared.version.Ending.TheVariants.{ZeroWord, DeadbeefWord, FewBytes}
-use Rattle.header_judge.specs.declared.Head.{Head}
 use Rattle.region_rows.specs.declared.Span.{Span}
 use Rattle.region_try.specs.Stops.{unknown, no_byte, header, standing_told, stop_ended, stop_number}
 use Rattle.region_try.specs.Tries.{Try, none, hit, try_of, deepest, rows_found, stands_at, Inside, within, onward, records, box_tries}

@@ -9,8 +9,7 @@ use native.Mathlib.Nat.{add-zero}
 use lib.Dec.{leb}
 use lib.ListN.{length, take, drop, drop_of_length-le}
 use borrow.Author.Tests.{le-leb}
-use Rattle.header_judge.specs.declared.Head.{Head}
-use Rattle.header_judge.specs.Head.{is_box, head_of}
+use Rattle.header_judge.specs.Head.{is_box, head_of, Head}
 use Rattle.region_rows.specs.declared.Span.{Span}
 use Rattle.region_try.specs.Tries.{Try, none, hit, try_of, deepest, rows_found, Inside, within, onward, records, box_tries, region_tries}
 

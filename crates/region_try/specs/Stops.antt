@@ -1,7 +1,8 @@
 -- What stands where a region stops, and why it does (document 02, C-12).
-use Rattle.std.specs.Prelude.{ℕ}
+use Rattle.std.specs.Prelude.{ℕ, Ok, Err}
 use Rattle.answers.specs.Stops as stops
-use Rattle.header_judge.specs.declared.Head.{Head}
+use Rattle.header_judge.specs.Head.{Head}
+use Rattle.header_judge.specs.declared.NoRecord.{NoRecord}
 use Rattle.header_judge.specs.declared.version.Ending.{Ending}
 use Rattle.region_try.specs.declared.Cut.{Cut}
 use Rattle.region_try.specs.declared.Cut.TheVariants.{Going, Full, Spent}
@@ -29,10 +30,10 @@ stop_ended Ending.FewBytes = FewBytes
 
 -- by a header that is no record; a record is none where it declares no byte
 abbrev pub stop_by : Head → Stop
-stop_by (Head.Ended ending) = stop_ended ending
-stop_by Head.BadHeader = BadHeader
-stop_by (Head.BadType t) = BadType
-stop_by (Head.Record s) = SizeZero
+stop_by (Err (NoRecord.Ended ending)) = stop_ended ending
+stop_by (Err NoRecord.BadHeader) = BadHeader
+stop_by (Err (NoRecord.BadType t)) = BadType
+stop_by (Ok s) = SizeZero
 
 abbrev pub stop_of : Standing → Stop
 stop_of unknown = Untold
@@ -53,10 +54,10 @@ stop_number SizeZero = stops.size_zero
 -- ---- the bad type; 0 where there is none
 
 abbrev pub bad_type_by : Head → ℕ
-bad_type_by (Head.Ended ending) = 0
-bad_type_by Head.BadHeader = 0
-bad_type_by (Head.BadType t) = t
-bad_type_by (Head.Record s) = 0
+bad_type_by (Err (NoRecord.Ended ending)) = 0
+bad_type_by (Err NoRecord.BadHeader) = 0
+bad_type_by (Err (NoRecord.BadType t)) = t
+bad_type_by (Ok s) = 0
 
 abbrev pub bad_type_of : Standing → ℕ
 bad_type_of unknown = 0

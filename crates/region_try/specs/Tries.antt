@@ -1,11 +1,9 @@
 -- The nested walk as the list of its tries, with no limit and no table (document 01, 'The nested listing'), and what stands where a region in it stops.
-use Rattle.std.specs.Prelude.{ℕ, zero, suc, ◌+◌, ◌-◌, min, List, [], ◌∷◌, ◌++◌, cond, eqb, leb, length, take, drop}
+use Rattle.std.specs.Prelude.{ℕ, zero, suc, ◌+◌, ◌-◌, min, List, [], ◌∷◌, ◌++◌, cond, eqb, leb, length, take, drop, Ok, Err}
 use Rattle.region_rows.specs.declared.Span.{Span}
 use Rattle.region_rows.specs.Rows.{top}
 use Rattle.header_judge.specs.declared.Summary.{Summary}
-use Rattle.header_judge.specs.declared.Head.{Head}
-use Rattle.header_judge.specs.declared.Head.TheVariants.{Ended, BadHeader, BadType, Record}
-use Rattle.header_judge.specs.Head.{is_box, head_of}
+use Rattle.header_judge.specs.Head.{is_box, head_of, Head}
 use Rattle.region_try.specs.Stops.{Standing, no_byte, header}
 
 -- ---- one try
@@ -37,11 +35,9 @@ span_of level parent offset left s =
 
 -- the try at an offset where a header stands: ended, bad and declared size 0 are no record
 unfoldable pub try_of : ℕ → ℕ → ℕ → ℕ → Head → Try
-try_of level parent offset left (Ended ending) = none level offset (Ended ending)
-try_of level parent offset left BadHeader = none level offset BadHeader
-try_of level parent offset left (BadType t) = none level offset (BadType t)
-try_of level parent offset left (Record s) =
-    cond (eqb s.declared 0) (none level offset (Record s)) (hit (span_of level parent offset left s))
+try_of level parent offset left (Err why) = none level offset (Err why)
+try_of level parent offset left (Ok s) =
+    cond (eqb s.declared 0) (none level offset (Ok s)) (hit (span_of level parent offset left s))
 
 -- the rows that some tries find
 unfoldable pub rows_found : List Try → List Span

@@ -3,7 +3,7 @@
 use mathlib.Core.Path.{◌≡◌, refl, ap, ap₂, ◌∙◌}
 use mathlib.Core.List.{List, [], ◌∷◌}
 use Prim.Native.Nat.{ℕ, ◌-◌}
-use Rattle.header_judge.specs.declared.Head.{Head}
+use Rattle.header_judge.specs.Head.{Head}
 use Rattle.region_try.specs.Stops.{Standing, unknown, no_byte, header, standing_told}
 use Rattle.region_try.specs.Tries.{Try, none, try_of, deepest}
 use Rattle.region_try.specs.Steps.{Walk, step, run}
