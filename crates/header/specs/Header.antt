@@ -4,11 +4,10 @@ use Rattle.answers.specs.Numbers.{done, bad_rules, bad_header, bad_type, ended}
 use Rattle.rules.specs.Rules.{valid_of}
 use Rattle.layout.specs.Fields.{read_all}
 use Rattle.header_judge.specs.Version.{ending_number, version_of}
-use Rattle.header_judge.specs.Head.{record_size, extended_size, layout_of, count_of, head_of}
+use Rattle.header_judge.specs.Head.{record_size, extended_size, layout_of, count_of, Head, head_of}
 use Rattle.header_judge.specs.declared.RecordSize.{RecordSize}
 use Rattle.header_judge.specs.declared.Layout.{Layout}
-use Rattle.header_judge.specs.declared.Head.{Head}
-use Rattle.header_judge.specs.declared.Head.TheVariants.{Record}
+use Rattle.header_judge.specs.declared.NoRecord.{NoRecord}
 use Rattle.header.specs.Layouts.{table_of, type_from, statuses_from}
 use Rattle.header.specs.declared.Header.{Header}
 use Rattle.header.specs.declared.Refusal.{Refusal}
@@ -47,11 +46,14 @@ ending_told (BadType t) = 0
 -- ---- a header judged
 
 -- by what one try found
+abbrev pub refusal_of : NoRecord → Refusal
+refusal_of (NoRecord.Ended e) = Ended e
+refusal_of NoRecord.BadHeader = BadHeader
+refusal_of (NoRecord.BadType t) = BadType t
+
 unfoldable pub judged_from : Head → Result Judged Refusal
-judged_from (Head.Ended e) = Err (Ended e)
-judged_from Head.BadHeader = Err BadHeader
-judged_from (Head.BadType t) = Err (BadType t)
-judged_from (Record s) = Ok (record { word = s.word; flags = s.flags; declared = s.declared; header_size = s.size })
+judged_from (Err why) = Err (refusal_of why)
+judged_from (Ok s) = Ok (record { word = s.word; flags = s.flags; declared = s.declared; header_size = s.size })
 
 -- bad rules come first
 unfoldable pub judged_of : List ℕ → List ℕ → Result Judged Refusal

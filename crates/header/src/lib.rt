@@ -2,15 +2,15 @@
 #![tactic(auto)]
 
 ghost use Rattle.std.specs.Prelude.{◌≡◌, ◌<◌, IfOk};
-ghost use Rattle.header_judge.specs.Head.{lacking, size_of};
-ghost use Rattle.header.specs.Header.{number_of, type_told, ending_told, judged_of, header_of, decoded_of};
+ghost use Rattle.header_judge.specs.Head.{Complete};
+ghost use Rattle.header.specs.Header.{refusal_of, number_of, type_told, ending_told, judged_of, header_of, decoded_of};
 
 pub mod access;
 pub mod fields;
 
 use fields::{fields_of, statuses_of};
 use header_judge::version::{Ending, Version, ending_number};
-use header_judge::{Head, RecordSize};
+use header_judge::{NoRecord, RecordSize};
 
 // The fields that most layouts share.
 #[derive(Clone, Copy, Debug, PartialEq, Eq)]
@@ -104,6 +104,18 @@ pub struct Decoded {
     pub header_size: usize,
 }
 
+impl From<NoRecord> for Refusal {
+    ghost from_gives = { λ why refusal. refusal ≡ refusal_of why };
+
+    fn from(why: NoRecord) -> Refusal {
+        match why {
+            NoRecord::Ended(ending) => Refusal::Ended(ending),
+            NoRecord::BadHeader => Refusal::BadHeader,
+            NoRecord::BadType(header_type) => Refusal::BadType(header_type),
+        }
+    }
+}
+
 impl From<Refusal> for u32 {
     ghost from_gives = { λ refusal number. number ≡ number_of refusal };
 
@@ -143,27 +155,23 @@ impl Refusal {
 #[tactic(auto, using(header_judge::proofs::Heads::record_told), unfolding(crate::specs::Header::judged_of, crate::specs::Header::judged_from))]
 pub fn judge(s: &[u8], rules: &[u32]) -> Result<Judged, Refusal>
     ensures value { result ≡ judged_of rules.now s.now }
-    ensures held { IfOk result (λ j. lacking < size_of s.now j.word j.flags) }
+    ensures held { IfOk result (λ j. Complete s.now j.word j.flags) }
 {
     if !rules::valid(rules) {
         return Err(Refusal::BadRules);
     }
-    match header_judge::judge(s, rules) {
-        Head::Ended(ending) => Err(Refusal::Ended(ending)),
-        Head::BadHeader => Err(Refusal::BadHeader),
-        Head::BadType(header_type) => Err(Refusal::BadType(header_type)),
-        Head::Record(summary) => Ok(Judged {
-            word: summary.word,
-            flags: summary.flags,
-            declared: summary.declared,
-            header_size: summary.size,
-        }),
-    }
+    let summary = header_judge::judge(s, rules)?;
+    Ok(Judged {
+        word: summary.word,
+        flags: summary.flags,
+        declared: summary.declared,
+        header_size: summary.size,
+    })
 }
 
 // The header of a record whose word and flags are known and whose bytes are there.
 pub fn header_of(s: &[u8], word: u32, flags: u32) -> Header
-    requires { lacking < size_of s.now word flags }
+    requires { Complete s.now word flags }
     ensures { result ≡ header_of s.now word flags }
 {
     let layout = header_judge::layout_of(word, flags);

@@ -28,28 +28,15 @@ assembled bs word flags e v z t ws =
     rw (v, size, t, ws, e)
 
 pub sizes_of-size-requires : goal.sizes_of-size-requires
-sizes_of-size-requires c =
-    let args = c.args in
-    let pre = c.requires in
-    (size_found args.s.now args.word args.flags (pre)).0
+sizes_of-size-requires c = (size_found c.args.s.now c.args.word c.args.flags c.requires).sizes
 
 pub fields_of-header_type-requires : goal.fields_of-header_type-requires
-fields_of-header_type-requires c =
-    let args = c.args in
-    let layout_of = c.layout_of-layout in
-    let pre = c.requires in
-    size_there args.s.now args.word args.flags layout_of.ensures pre
+fields_of-header_type-requires c = size_there c.args.s.now c.args.word c.args.flags c.layout_of-layout.ensures c.requires
 
 pub statuses_of-completion_statuses-requires : goal.statuses_of-completion_statuses-requires
-statuses_of-completion_statuses-requires c =
-    let args = c.args in
-    let layout_of = c.layout_of-layout in
-    let pre = c.requires in
-    size_there args.s.now args.word args.flags layout_of.ensures pre
+statuses_of-completion_statuses-requires c = size_there c.args.s.now c.args.word c.args.flags c.layout_of-layout.ensures c.requires
 
 pub returns : goal.returns
 returns c =
-    let chosen = c in
-    let a = chosen.args in
-    assembled a.s.now a.word a.flags chosen.layout_of-layout.ensures c.from_u32-version.ensures c.sizes_of-size.ensures
+    assembled c.args.s.now c.args.word c.args.flags c.layout_of-layout.ensures c.from_u32-version.ensures c.sizes_of-size.ensures
     c.fields_of-header_type.ensures c.statuses_of-completion_statuses.ensures
