@@ -7,19 +7,19 @@ use Prim.Native.Nat.{ℕ, ◌≤◌}
 use native.Mathlib.Omega.{arith}
 use lib.Dec.{eqb}
 use lib.ListN.{length, take, drop, length-append}
-use borrow.Author.Tests.{eqb-false, not-true}
+use borrow.Author.Tests.{ne_eqb, eqb-false, not-true}
+use Rattle.std.proofs.Common.{Ok}
 use Rattle.layout.specs.Fields.{Field, read_all}
 use Rattle.basics.proofs.Bools.{both}
 use Rattle.layout.proofs.Full.{read_full, length-bytes}
 use Rattle.rules.specs.Rules.{valid_of, flags_of}
 use Rattle.header_judge.specs.Version.{no_word, end_mark, word_of, revision, version_of, InBits, word_from}
-use Rattle.header_judge.specs.Head.{legacy, declared_of, layout_of, sizes_end, size_for, count_of, enough, size_of, summary_of, head_with, head_of}
+use Rattle.header_judge.specs.Head.{legacy, declared_of, layout_of, sizes_end, no_size, size_for, count_of, layout_size, Complete, summary_of, head_with, head_of}
 use Rattle.header_judge.specs.declared.version.Version.{Version}
 use Rattle.header_judge.specs.declared.Layout.{Layout}
-use Rattle.header_judge.specs.declared.Head.TheVariants.{Record}
 use Rattle.header_judge.proofs.Words.{word_there}
 use Rattle.header_judge.proofs.Heads.{head_record}
-use Rattle.header_judge.proofs.Sizes.{size_long, enough_there}
+use Rattle.header_judge.proofs.Sizes.{size_long}
 use Rattle.header.specs.Layouts.{table_of, padded}
 use Rattle.header.specs.Header.{header_of, decoded_of}
 use Rattle.header.specs.Access.{layout_in, count_in, header_size, record_bytes}
@@ -118,19 +118,20 @@ module _ (rules : List ℕ) (valid : valid_of rules ≡ true) (h : Header) (can 
   word_is =
       sym (word_there bs (omega (arith, room, size_least (is_legacy l) (sizes_within t))) word (ap (λ (p : Parts). p.word) (sym parts_are)) readable_word.1)
 
-  size_is : size_of bs word flags ≡ size
-  size_is =
-      let ends : sizes_end flags ≡ cond (is_legacy l) 18 8 = ap (λ (b : Bool). cond b 18 8) legacy_is in
-      sym (size_long bs word flags (omega (arith, ends, room, sizes_within t)))
-      ∙ ap (λ (k : Layout). enough bs (size_for k (count_of bs))) layout_is
-      ∙ ap (λ (s : List Field × ℕ). enough bs s.1) shape_is
-      ∙ sym (enough_there bs size room)
+  size_is : layout_size bs word flags ≡ size
+  size_is = ap (λ (k : Layout). size_for k (count_of bs)) layout_is ∙ ap (λ (s : List Field × ℕ). s.1) shape_is
 
-  head_is : head_of rules bs ≡ Record (summary_of bs word flags)
+  size_there : Complete bs word flags
+  size_there =
+      let ends : sizes_end flags ≡ cond (is_legacy l) 18 8 = ap (λ (b : Bool). cond b 18 8) legacy_is in
+      let some : layout_size bs word flags ≡ no_size → ⊥ = λ e. omega (arith, size_is, size_least (is_legacy l) (sizes_within t)) in
+      size_long bs word flags (omega (arith, ends, room, sizes_within t)) (rw size_is room) ∙ rw (ne_eqb (layout_size bs word flags) no_size some)
+
+  head_is : head_of rules bs ≡ Ok (summary_of bs word flags)
   unfolding head_of
   head_is =
       ap (λ (w : ℕ). head_with bs w (flags_of rules w)) word_is
-      ∙ head_record bs word flags readable_word.0 (omega (arith, size_is, size_least (is_legacy l) (sizes_within t)))
+      ∙ head_record bs word flags readable_word.0 size_there
 
   header_is : header_of bs word flags ≡ cleared h
   header_is =

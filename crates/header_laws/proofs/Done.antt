@@ -8,14 +8,13 @@ use native.Mathlib.Omega.{arith}
 use lib.Dec.{eqb, ltb}
 use lib.ListN.{length}
 use borrow.Author.Tests.{eqb-false}
+use Rattle.std.proofs.Common.{Ok, Err}
 use Rattle.std.specs.Prelude.{Result, Ok, Err}
 use Rattle.le.specs.Le.{le}
 use Rattle.rules.specs.Rules.{valid_of, flags_of}
 use Rattle.header_judge.specs.Version.{no_word, end_mark, word_of}
-use Rattle.header_judge.specs.Head.{lacking, layout_of, count_of, size_for, size_of, summary_of, head_of}
+use Rattle.header_judge.specs.Head.{no_size, layout_size, layout_of, count_of, size_for, size_of, summary_of, head_of, Head}
 use Rattle.header_judge.specs.declared.Summary.{Summary}
-use Rattle.header_judge.specs.declared.Head.{Head}
-use Rattle.header_judge.specs.declared.Head.TheVariants.{Record}
 use Rattle.header_judge.proofs.Heads.{record_told}
 use Rattle.header_judge.proofs.Sizes.{size_found}
 use Rattle.header.specs.Header.{judged_from, judged_of, decoded_from, decoded_of}
@@ -41,7 +40,7 @@ module _ (rules bs : List ℕ) where
     unfolding decoded_of judged_of
     decoded_from_lem = rw valid
 
-    pub decoded_of_record : {s : Summary} → head_of rules bs ≡ Record s → decoded_of rules bs ≡ Ok (decoded_record bs s)
+    pub decoded_of_record : {s : Summary} → head_of rules bs ≡ Ok s → decoded_of rules bs ≡ Ok (decoded_record bs s)
     unfolding judged_from
     decoded_of_record e = decoded_from_lem ∙ ap (λ (h : Head). decoded_from bs (judged_from h)) e
 
@@ -69,10 +68,9 @@ module _ (rules bs : List ℕ) where
     pub there : word ≡ no_word → ⊥
     pub word_is : word ≡ le 4 bs 0
     pub unmarked : word ≡ end_mark → ⊥
-    pub size : size_of bs word flags ≡ size_for (layout_of word flags) (count_of bs)
-    pub some : lacking < size_for (layout_of word flags) (count_of bs)
+    pub some : 0 < size_for (layout_of word flags) (count_of bs)
     pub room : size_for (layout_of word flags) (count_of bs) ≤ length bs
-    pub head : head_of rules bs ≡ Record here
+    pub head : head_of rules bs ≡ Ok here
     pub decoded : decoded_of rules bs ≡ Ok (decoded_record bs here)
 
   pub done_known : {d : Decoded} → decoded_of rules bs ≡ Ok d → Known
@@ -80,23 +78,20 @@ module _ (rules bs : List ℕ) where
   done_known {d} done = by (head_of rules bs) refl (sym (decoded_from_lem (done_valid done)) ∙ done)
     where
       by : (h : Head) → head_of rules bs ≡ h → decoded_from bs (judged_from h) ≡ Ok d → Known
-      by (Head.Ended ending) e f = absurd (let o : ◌≡◌ {A = ℕ} 0 1 = cc in omega arith)
-      by Head.BadHeader e f = absurd (let o : ◌≡◌ {A = ℕ} 0 1 = cc in omega arith)
-      by (Head.BadType t) e f = absurd (let o : ◌≡◌ {A = ℕ} 0 1 = cc in omega arith)
-      by (Record s) e _ =
+      by (Err why) e f = absurd (let o : ◌≡◌ {A = ℕ} 0 1 = cc in omega arith)
+      by (Ok s) e _ =
           let told = record_told rules bs e in
           let there = told.there in
-          let some = told.found in
-          let size = size_found bs word flags some in
-          let head = e ∙ ap Record told.is in
+          let size = size_found bs word flags told.found in
+          let some : layout_size bs word flags ≡ no_size → ⊥ = size.some in
+          let head = e ∙ ap Ok told.is in
           record {
             valid = done_valid done;
             there = there;
             word_is = (word_read bs there).0;
             unmarked = (word_read bs there).1;
-            size = size.1;
-            some = rw size.1 at some;
-            room = rw size.1 at size.2;
+            some = omega arith;
+            room = size.within;
             head = head;
             decoded = decoded_of_record (done_valid done) head;
           }

@@ -15,7 +15,7 @@ use Rattle.le.specs.Le.{le}
 use Rattle.layout.specs.Fields.{Field, read_all}
 use Rattle.rules.specs.Rules.{has, legacy_server, legacy_gpu}
 use Rattle.header_judge.specs.Version.{header_type}
-use Rattle.header_judge.specs.Head.{legacy, type_layout, layout_of, lacking, size_for, count_of}
+use Rattle.header_judge.specs.Head.{legacy, type_layout, layout_of, size_for, count_of}
 use Rattle.header_judge.specs.declared.Layout.{Layout}
 use Rattle.header_judge.specs.declared.Layout.TheVariants.{Zero, One, Two, Three, Four, Five, Six, LegacyServer, LegacyGpu, Bad}
 use Rattle.header_judge.proofs.Sizes.{count_there}
@@ -27,7 +27,7 @@ use Rattle.header_judge.specs.contracts.LayoutPartialEq.TheImpl as layouts
 
 -- ---- the layout and the count of the fields that are read
 
-pub layout_from : (l : Layout) (n : ℕ) (vs : List ℕ) → lacking < size_for l n → layout_in (type_from l vs) ≡ l
+pub layout_from : (l : Layout) (n : ℕ) (vs : List ℕ) → 0 < size_for l n → layout_in (type_from l vs) ≡ l
 layout_from Zero n vs h = refl
 layout_from One n vs h = refl
 layout_from Two n vs h = refl

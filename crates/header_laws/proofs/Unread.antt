@@ -15,7 +15,7 @@ use Rattle.layout.specs.Runs.{cells}
 use Rattle.layout.proofs.Full.{full_fits}
 use Rattle.layout.proofs.Puts.{field_at, read_put, put-bytes}
 use Rattle.header_judge.specs.Version.{revision}
-use Rattle.header_judge.specs.Head.{lacking, size_for, count_of, server_die}
+use Rattle.header_judge.specs.Head.{size_for, count_of, server_die}
 use Rattle.header_judge.specs.declared.Layout.{Layout}
 use Rattle.header_judge.specs.declared.Layout.TheVariants.{Zero, One, Two, Three, Four, Five, Six, LegacyServer, LegacyGpu, Bad}
 use Rattle.header_judge.proofs.Sizes.{count_there}
@@ -77,7 +77,7 @@ module _ (l : Layout) (n : ℕ) where
 abbrev values_in : Parts → List ℕ
 values_in p = values_for p.word p.size p.fields p.words
 
-pub values_read : (bs : List ℕ) → Bytes bs → (l : Layout) → lacking < size_for l (count_of bs) → size_for l (count_of bs) ≤ length bs
+pub values_read : (bs : List ℕ) → Bytes bs → (l : Layout) → 0 < size_for l (count_of bs) → size_for l (count_of bs) ≤ length bs
     → values_in (parts_at bs l (table_of l (count_of bs))) ≡ read_all (table_of l (count_of bs)) (unread_zero l bs)
 unfolding read_all
 values_read bs bytes Zero h room = refl

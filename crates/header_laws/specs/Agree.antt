@@ -3,21 +3,10 @@ use Rattle.std.specs.Prelude.{ℕ, List, Option, Some, None}
 use Rattle.header_judge.specs.Head.{no_die}
 use Rattle.header_judge.specs.declared.origin.Origin.{Origin}
 use Rattle.header_judge.specs.declared.Summary.{Summary}
-use Rattle.header_judge.specs.declared.Head.{Head}
-use Rattle.header_judge.specs.declared.Head.TheVariants.{Record}
 use Rattle.header.specs.Header.{header_of}
 use Rattle.header.specs.Access.{socket_of, die_of}
 use Rattle.header.specs.declared.HeaderType.{HeaderType}
-use Rattle.header.specs.declared.Refusal.{Refusal}
-use Rattle.header.specs.declared.Refusal.TheVariants.{Ended, BadHeader, BadType}
 use Rattle.header.specs.declared.Decoded.{Decoded}
-
--- the refusal for what one try found, where it found no record
-abbrev pub refusal_for : Head → Option Refusal
-refusal_for (Head.Ended e) = Some (Ended e)
-refusal_for Head.BadHeader = Some BadHeader
-refusal_for (Head.BadType t) = Some (BadType t)
-refusal_for (Record s) = None
 
 -- a decode that finds a record
 abbrev pub decoded_record : List ℕ → Summary → Decoded

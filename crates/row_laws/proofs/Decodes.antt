@@ -5,11 +5,11 @@ use mathlib.Core.List.{List, [], ◌∷◌}
 use mathlib.Core.Bool.{true}
 use Prim.Native.Nat.{ℕ, zero, suc}
 use lib.ListN.{drop}
+use Rattle.std.proofs.Common.{Ok}
 use Rattle.std.specs.Prelude.{Ok}
 use Rattle.rules.specs.Rules.{valid_of}
 use Rattle.header_judge.specs.Version.{word_of}
 use Rattle.header_judge.specs.declared.Summary.{Summary}
-use Rattle.header_judge.specs.declared.Head.TheVariants.{Record}
 use Rattle.header.specs.Header.{decoded_of}
 use Rattle.header.specs.declared.Decoded.{Decoded}
 use Rattle.header_laws.specs.Agree.{decoded_record, decoded_summary}
@@ -26,7 +26,7 @@ use Rattle.region_laws.specs.Clauses.{Every, rows_of}
 use Rattle.row_laws.specs.Decodes.{Decodes}
 use Rattle.row_laws.proofs.Stands.{EachFound, Stands, all_stand}
 
-same_summary : {s₁ s₂ : Summary} → Record s₁ ≡ Record s₂ → s₁ ≡ s₂
+same_summary : {s₁ s₂ : Summary} → Ok s₁ ≡ Ok s₂ → s₁ ≡ s₂
 same_summary e = cc
 
 -- a header that stands where a row says, decoded

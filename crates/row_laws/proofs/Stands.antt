@@ -8,8 +8,8 @@ use lib.Dec.{leb}
 use lib.ListN.{length, take, drop, take-append-drop}
 use lib.Seq.{drop-drop, drop-append-le}
 use borrow.Author.Tests.{leb-true}
+use Rattle.std.proofs.Common.{Ok}
 use Rattle.header_judge.specs.Head.{is_box, head_of}
-use Rattle.header_judge.specs.declared.Head.TheVariants.{Record}
 use Rattle.header_judge.proofs.Longer.{head_longer}
 use Rattle.region_rows.specs.declared.Span.{Span}
 use Rattle.region_rows.specs.Rows.{top}
@@ -32,7 +32,7 @@ module _ (P : Span → Type 0) where
 module _ (rules input : List ℕ) where
   -- the header at a row's offset is that of the row
   abbrev pub Stands : Span → Type 0
-  Stands r = head_of rules (drop r.offset input) ≡ Record (summary_in r)
+  Stands r = head_of rules (drop r.offset input) ≡ Ok (summary_in r)
 
   abbrev AllStand : List Try → Type 0
   AllStand vs = EachFound Stands vs
@@ -58,7 +58,7 @@ module _ (rules input : List ℕ) where
       (at.0, sym (drop-drop size offset input) ∙ ap (drop size) at.1 ∙ drop-append-le size held at.0 h)
 
   -- a header in them is the input's
-  head_begun : (bs : List ℕ) (r : Span) → Begin bs r.offset → head_of rules bs ≡ Record (summary_in r) → Stands r
+  head_begun : (bs : List ℕ) (r : Span) → Begin bs r.offset → head_of rules bs ≡ Ok (summary_in r) → Stands r
   head_begun bs r at e = ap (head_of rules) at.1 ∙ head_longer bs at.0 rules e
 
   -- ---- the tries
