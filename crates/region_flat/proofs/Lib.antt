@@ -1,4 +1,3 @@
 pub mod Due
 pub mod Turn
-pub mod Parts
 pub mod Same

@@ -1,12 +1,7 @@
--- What the parts of the flat walk give: a level of its place, the remembered words, and what is found where no record is.
-use Rattle.std.specs.Prelude.{ℕ, ◌+◌, List, cond, eqb}
-use Rattle.header_judge.specs.Version.{header_type}
-use Rattle.header_judge.specs.Head.{no_size, lacking}
+-- What the parts of the flat walk give: a level of its place, and the remembered words.
+use Rattle.std.specs.Prelude.{ℕ, ◌+◌, List}
 use Rattle.header_judge.specs.Steps.{Known}
-use Rattle.region_try.specs.declared.stop.Stop.TheVariants.{BadHeader, BadType, SizeZero}
-use Rattle.region_try.specs.declared.Found.{Found}
-use Rattle.region_try.specs.declared.Found.TheVariants.{Nothing}
-use Rattle.region_flat.specs.declared.one_try.Memory.{Memory}
+use Rattle.region_flat.specs.declared.memory.Memory.{Memory}
 use Rattle.region_flat.specs.declared.place.Level.{Level}
 
 -- a level past a record, by what it declares
@@ -24,7 +19,3 @@ Remembers rules m = Known rules m.word m.flags × Known rules m.looked_word m.lo
 -- with a word that has none
 abbrev pub without_flags : Memory → ℕ → Memory
 without_flags m word = record { word = word; flags = 0; looked_word = m.looked_word; looked_flags = m.looked_flags }
-
--- what is found where a word is, and no record, by the header's size
-abbrev pub nothing_at : ℕ → ℕ → Found
-nothing_at word size = cond (eqb size no_size) (Nothing BadType (header_type word)) (cond (eqb size lacking) (Nothing BadHeader 0) (Nothing SizeZero 0))

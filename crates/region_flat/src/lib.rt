@@ -5,7 +5,7 @@ ghost use Rattle.std.specs.Prelude.{◌≡◌, ◌*◌, ◌≤◌, length};
 ghost use Rattle.region_rows.specs.Rows.{width};
 ghost use Rattle.region.specs.Listing.{listed};
 
-pub mod one_try;
+pub mod memory;
 pub mod place;
 pub mod walk;
 

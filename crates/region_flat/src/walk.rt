@@ -5,7 +5,7 @@ ghost use Rattle.region_rows.specs.Rows.{width, top};
 ghost use Rattle.region_try.specs.Tries.{deepest, region_tries};
 ghost use Rattle.region_walk.specs.Steps.{going, region_end};
 
-use crate::one_try::{Memory, try_next};
+use crate::memory::Memory;
 use crate::place::Level;
 use header_judge::version::word_of;
 use region_rows::TOP;
@@ -57,7 +57,18 @@ pub fn flat_walk(bytes: &[u8], rules: &[u32], limit: u64, room: u32, spans: &mut
         let left = &bytes[here.at as usize..here.till as usize];
         seen = seen.recall(rules, &sieve, word_of(left));
         tries += 1;
-        match try_next(left, seen, level, here, room, rows, spans) {
+        let tried = region_try::try_at(
+            left,
+            seen.word,
+            seen.flags,
+            level as u32,
+            here.parent,
+            here.at as usize,
+            room,
+            rows,
+            spans,
+        );
+        match tried {
             Found::Nothing { stop, bad_type } => {
                 whole &= clean_stop(stop);
                 if level == 0 {

@@ -7,15 +7,13 @@ use Prim.Native.Nat.{ℕ, zero, suc, ◌≤◌, ◌<◌}
 use native.Mathlib.Omega.{arith}
 use lib.Dec.{leb}
 use borrow.Author.Tests.{leb-false, le-leb, lt-leb}
-use Rattle.header_judge.specs.Version.{header_type}
-use Rattle.header_judge.specs.Head.{no_size, lacking, is_box}
+use Rattle.header_judge.specs.Head.{is_box}
 use Rattle.region_rows.specs.declared.Span.{Span}
 use Rattle.region_rows.specs.Rows.{with_span}
 use Rattle.region_try.specs.Stops.{stop_by, bad_type_by}
 use Rattle.region_try.specs.Tries.{Try, none, hit}
-use Rattle.region_try.specs.Steps.{sizeless, found}
+use Rattle.region_try.specs.Steps.{found}
 use Rattle.region_try.specs.declared.stop.Stop.{Stop}
-use Rattle.region_try.specs.declared.stop.Stop.TheVariants.{BadHeader, BadType}
 use Rattle.region_try.specs.declared.Found.{Found}
 use Rattle.region_try.specs.declared.Found.TheVariants.{Nothing, NoRoom, Row}
 use Rattle.region_try.proofs.Heads.{Stopped}
@@ -26,17 +24,6 @@ module _ (room rows : ℕ) (t : List ℕ) {v : Try} where
   pub finds_nothing : {stop : Stop} {type : ℕ} → Stopped v stop type → ◌≡◌ {A = List ℕ × Found} (t, Nothing stop type) (found room rows v t)
   unfolding found
   finds_nothing s = rw (s.is, s.why, s.bad)
-
-  -- a header without a size
-  pub finds_sizeless : (word size : ℕ) → size ≤ lacking → (size ≡ no_size → Stopped v BadType (header_type word)) → (size ≡ lacking → Stopped v BadHeader 0)
-      → ◌≡◌ {A = List ℕ × Found} (t, sizeless word size) (found room rows v t)
-  finds_sizeless word size h bad short = by size h bad short
-    where
-      by : (n : ℕ) → n ≤ lacking → (n ≡ no_size → Stopped v BadType (header_type word)) → (n ≡ lacking → Stopped v BadHeader 0)
-          → ◌≡◌ {A = List ℕ × Found} (t, sizeless word n) (found room rows v t)
-      by zero h bad short = finds_nothing (bad refl)
-      by (suc zero) h bad short = finds_nothing (short refl)
-      by (suc (suc n)) h bad short = absurd (omega arith)
 
   pub finds_no_room : {r : Span} → v ≡ hit r → room ≤ rows → ◌≡◌ {A = List ℕ × Found} (t, NoRoom) (found room rows v t)
   unfolding found

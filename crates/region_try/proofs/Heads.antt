@@ -9,11 +9,12 @@ use lib.Dec.{eqb}
 use lib.ListN.{length}
 use borrow.Author.Tests.{eq-eqb, ne_eqb, eqb-false}
 use Rattle.std.proofs.Common.{Ok, Err}
-use Rattle.header_judge.specs.Version.{no_word, ending_of, header_type}
-use Rattle.header_judge.specs.Head.{no_size, lacking, size_of, declared_of, summary_of, Head}
+use Rattle.header_judge.specs.Version.{no_word, ending_of}
+use Rattle.header_judge.specs.Head.{size_of, declared_of, summary_of, Complete, Head}
 use Rattle.header_judge.specs.declared.Summary.{Summary}
-use Rattle.header_judge.specs.declared.NoRecord.TheVariants.{Ended, BadHeader, BadType}
-use Rattle.header_judge.proofs.Heads.{head_ended, head_bad_type, head_bad_header, head_record}
+use Rattle.header_judge.specs.declared.NoRecord.{NoRecord}
+use Rattle.header_judge.specs.declared.NoRecord.TheVariants.{Ended}
+use Rattle.header_judge.proofs.Heads.{head_ended, head_none, head_record}
 use Rattle.region_rows.specs.declared.Span.{Span}
 use Rattle.region_try.specs.Stops.{stop_ended, stop_by, bad_type_by}
 use Rattle.region_try.specs.Tries.{Try, span_of, none, hit, try_of}
@@ -40,19 +41,15 @@ module _ (level parent offset : ℕ) (bs : List ℕ) (word flags : ℕ) where
   unfolding try_of
   ended_stops e = rw (head_ended bs word flags e) (stopped level offset (Err (Ended (ending_of bs))))
 
-  pub bad_type_stops : (word ≡ no_word → ⊥) → size_of bs word flags ≡ no_size → Stopped this Stop.BadType (header_type word)
+  pub none_stops : (word ≡ no_word → ⊥) → {why : NoRecord} → size_of bs word flags ≡ Err why → Stopped this (stop_by (Err why)) (bad_type_by (Err why))
   unfolding try_of
-  bad_type_stops f e = rw (head_bad_type bs word flags f e) (stopped level offset (Err (BadType (header_type word))))
+  none_stops f {why} e = rw (head_none bs word flags f e) (stopped level offset (Err why))
 
-  pub bad_header_stops : (word ≡ no_word → ⊥) → size_of bs word flags ≡ lacking → Stopped this Stop.BadHeader 0
-  unfolding try_of
-  bad_header_stops f e = rw (head_bad_header bs word flags f e) (stopped level offset (Err BadHeader))
-
-  pub empty_stops : (word ≡ no_word → ⊥) → lacking < size_of bs word flags → declared_of bs flags ≡ 0 → Stopped this Stop.SizeZero 0
+  pub empty_stops : (word ≡ no_word → ⊥) → Complete bs word flags → declared_of bs flags ≡ 0 → Stopped this Stop.SizeZero 0
   unfolding try_of
   empty_stops f h e = rw (head_record bs word flags f h, eq-eqb _ _ e) (stopped level offset (Ok (summary_of bs word flags)))
 
-  pub record_hit : (word ≡ no_word → ⊥) → lacking < size_of bs word flags → (declared_of bs flags ≡ 0 → ⊥)
+  pub record_hit : (word ≡ no_word → ⊥) → Complete bs word flags → (declared_of bs flags ≡ 0 → ⊥)
       → this ≡ hit (span_of level parent offset (length bs) (summary_of bs word flags))
   unfolding try_of
   record_hit f h g = rw (head_record bs word flags f h, ne_eqb _ _ g)

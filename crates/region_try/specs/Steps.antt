@@ -1,14 +1,13 @@
 -- What the inner functions of the walk give: tries made one after the other under a limit, into the rows of a table that has so much room.
-use Rattle.std.specs.Prelude.{ℕ, ◌+◌, ◌-◌, ◌≤◌, ◌<◌, List, [], ◌∷◌, Bool, false, cond, not, ◌&&◌, eqb, leb, length}
-use Rattle.header_judge.specs.Version.{header_type}
-use Rattle.header_judge.specs.Head.{no_size, is_box, head_with}
+use Rattle.std.specs.Prelude.{ℕ, ◌+◌, ◌-◌, ◌≤◌, ◌<◌, List, [], ◌∷◌, Bool, false, cond, not, ◌&&◌, leb, length, Err}
+use Rattle.header_judge.specs.Head.{is_box, head_with}
+use Rattle.header_judge.specs.declared.NoRecord.{NoRecord}
 use Rattle.region_rows.specs.Rows.{with_span}
 use Rattle.region_try.specs.Stops.{stop_by, bad_type_by}
 use Rattle.region_try.specs.Tries.{Try, none, hit, try_of, deepest}
 use Rattle.region_try.specs.Whole.{unopened, keeps_whole}
 use Rattle.region_try.specs.declared.Cut.{Cut}
 use Rattle.region_try.specs.declared.Cut.TheVariants.{Going, Full, Spent}
-use Rattle.region_try.specs.declared.stop.Stop.TheVariants.{BadHeader, BadType}
 use Rattle.region_try.specs.declared.State.{State}
 use Rattle.region_try.specs.declared.Found.{Found}
 use Rattle.region_try.specs.declared.Found.TheVariants.{Nothing, NoRoom, Row}
@@ -21,9 +20,9 @@ Walk = List ℕ × State
 abbrev pub state : ℕ → ℕ → Bool → Cut → State
 state rows tries whole cut = record { rows = rows; tries = tries; whole = whole; cut = cut }
 
--- what is found where a header has no size
-abbrev pub sizeless : ℕ → ℕ → Found
-sizeless word size = cond (eqb size no_size) (Nothing BadType (header_type word)) (Nothing BadHeader 0)
+-- what is found where no record is
+abbrev pub nothing_for : NoRecord → Found
+nothing_for why = Nothing (stop_by (Err why)) (bad_type_by (Err why))
 
 -- the try of the header at the start of some bytes, whose word and flags are known
 abbrev pub try_at : ℕ → ℕ → ℕ → List ℕ → ℕ → ℕ → Try

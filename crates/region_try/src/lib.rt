@@ -4,12 +4,12 @@
 ghost use Rattle.std.specs.Prelude.{◌≡◌, ◌*◌, ◌≤◌, ◌<◌, ◌^◌, length};
 ghost use Rattle.region_rows.specs.Rows.{width};
 ghost use Rattle.region_try.specs.Tries.{span_of};
-ghost use Rattle.region_try.specs.Steps.{sizeless, try_at, found, RowBounds};
+ghost use Rattle.region_try.specs.Steps.{nothing_for, try_at, found, RowBounds};
 
 pub mod stop;
 
 use header_judge::version::{NO_WORD, ending_of};
-use header_judge::{LACKING, NO_SIZE, Summary};
+use header_judge::{NoRecord, Summary};
 use region_rows::Span;
 use stop::Stop;
 
@@ -46,20 +46,16 @@ pub enum Found {
     },
 }
 
-// A header that has no size: its type is bad, or bytes are lacking.
-fn sizeless(word: u32, size: usize) -> Found
-    ensures { result ≡ sizeless word size }
-{
-    if size == NO_SIZE {
-        Found::Nothing {
-            stop: Stop::BadType,
-            bad_type: word / 256 % 16,
-        }
-    } else {
-        Found::Nothing {
-            stop: Stop::BadHeader,
-            bad_type: 0,
-        }
+impl From<NoRecord> for Found {
+    ghost from_gives = { λ why found. found ≡ nothing_for why };
+
+    fn from(why: NoRecord) -> Found {
+        let (stop, bad_type) = match why {
+            NoRecord::Ended(ending) => (ending.into(), 0),
+            NoRecord::BadHeader => (Stop::BadHeader, 0),
+            NoRecord::BadType(header_type) => (Stop::BadType, header_type),
+        };
+        Found::Nothing { stop, bad_type }
     }
 }
 
@@ -83,7 +79,9 @@ pub fn span_of(level: u32, parent: u32, offset: usize, left: usize, summary: Sum
     }
 }
 
-// One try, where the header's word and flags are known: the header is judged first, then the room for its row.
+// One try, where the header's word and flags are known: the header is judged first, then the room for its row. Opened in each walk, it costs
+// no call for each record.
+#[inline(always)]
 pub fn try_at(
     bytes: &[u8],
     word: u32,
@@ -100,15 +98,12 @@ pub fn try_at(
     ensures row_bounds { RowBounds result }
 {
     if word == NO_WORD {
-        return Found::Nothing {
-            stop: ending_of(bytes).into(),
-            bad_type: 0,
-        };
+        return NoRecord::Ended(ending_of(bytes)).into();
     }
-    let size = header_judge::size_of(bytes, word, flags);
-    if size <= LACKING {
-        return sizeless(word, size);
-    }
+    let size = match header_judge::size_of(bytes, word, flags) {
+        Ok(size) => size,
+        Err(why) => return why.into(),
+    };
     let declared = header_judge::declared_of(bytes, flags);
     if declared == 0 {
         return Found::Nothing {

@@ -69,7 +69,7 @@ module _ (c : In-Nothing) where
   abbrev stop_place : Place
   stop_place = place c.loop-here.around c.loop-here.level c.loop-here.here
 
-  stop_tried : Tried stop_walk stop_place c.loop-here.spans c.try_next.new.spans c.loop-here.rows c.loop-here.tries (Nothing c.in-Nothing.stop c.in-Nothing.bad_type)
+  stop_tried : Tried stop_walk stop_place c.loop-here.spans c.try_at-tried.new.spans c.loop-here.rows c.loop-here.tries (Nothing c.in-Nothing.stop c.in-Nothing.bad_type)
   stop_tried =
       tried_at stop_walk c.recall-seen.result.word c.recall-seen.result.flags (record { some = c.if-here.false; place = c.loop-here.invariant.placed }) c.if-limit-tries.false
       (c.recall-seen.ensures.1 ∙ c.word_of.ensures) c.recall-seen.ensures.0.0 c.in-Nothing.ensures.result_after c.in-Nothing.ensures.row_bounds
@@ -110,7 +110,7 @@ module _ (c : In-Row) where
   abbrev row_place : Place
   row_place = place c.loop-here.around c.loop-here.level c.loop-here.here
 
-  row_tried : Tried row_walk row_place c.loop-here.spans c.try_next.new.spans c.loop-here.rows c.loop-here.tries (Row c.in-Row.held c.in-Row.declared c.in-Row.size c.in-Row.boxed)
+  row_tried : Tried row_walk row_place c.loop-here.spans c.try_at-tried.new.spans c.loop-here.rows c.loop-here.tries (Row c.in-Row.held c.in-Row.declared c.in-Row.size c.in-Row.boxed)
   row_tried =
       tried_at row_walk c.recall-seen.result.word c.recall-seen.result.flags (record { some = c.if-here.false; place = c.loop-here.invariant.placed }) c.if-limit-tries.false
       (c.recall-seen.ensures.1 ∙ c.word_of.ensures) c.recall-seen.ensures.0.0 c.in-Row.ensures.result_after c.in-Row.ensures.row_bounds
@@ -143,7 +143,7 @@ loop-here-preserved-then-size-held c =
 -- none is
 module _ (c : After-past-here)
     (y : Tried (walked c.args.bytes.now c.args.rules.now c.args.limit c.args.room) (place c.loop-here.around c.loop-here.level c.loop-here.here)
-    c.loop-here.spans c.try_next.new.spans c.loop-here.rows c.loop-here.tries (Row c.in-Row.held c.in-Row.declared c.in-Row.size c.in-Row.boxed)) where
+    c.loop-here.spans c.try_at-tried.new.spans c.loop-here.rows c.loop-here.tries (Row c.in-Row.held c.in-Row.declared c.in-Row.size c.in-Row.boxed)) where
   abbrev further : Place
   further = place c.loop-here.around c.loop-here.level (past c.loop-here.here c.in-Row.declared)
 
