@@ -3,18 +3,19 @@
 use mathlib.Core.Path.{◌≡◌, refl, ap, ap₂, ◌∙◌}
 use mathlib.Core.Bool.{Bool, true, false, not, ◌&&◌, ◌||◌}
 use lib.Dec.{leb}
-use Rattle.header_judge.specs.Version.{bit}
+use Rattle.std.specs.Prelude.{Some}
+use Rattle.std.specs.Int.{from_bool}
 use Rattle.header.specs.declared.Header.{Header}
 use Rattle.header.specs.declared.Status.{Status}
 use Rattle.header.specs.declared.HeaderType.{HeaderType}
 use Rattle.header.specs.declared.HeaderType.TheVariants.{Type0, Type1, Type2, Type3, Type4, Type5, Type6, Type0LegacyServer, Type0LegacyGpu}
 use Rattle.c_header.specs.Header.{yes, fields_of, flat, header_out, has_complete, sound, fields_in, type_of, header_in, taken_of}
 
-yes_no_lem : (b : Bool) → yes (bit b) ≡ b
+yes_no_lem : (b : Bool) → yes (from_bool b) ≡ b
 yes_no_lem true = refl
 yes_no_lem false = refl
 
-small : (b : Bool) → leb (bit b) 1 ≡ true
+small : (b : Bool) → leb (from_bool b) 1 ≡ true
 small true = refl
 small false = refl
 
@@ -22,7 +23,7 @@ sound_out : (h : Header) (t : HeaderType) → sound (flat h (fields_of t)) ≡ t
 unfolding sound
 sound_out h t = rw (small h.version.cldic, small h.version.consumed) (by t)
   where
-    by : (t : HeaderType) → leb (fields_of t).layout 8 && (not (has_complete (fields_of t).layout) || leb (bit (fields_of t).status.collection_complete) 1) ≡ true
+    by : (t : HeaderType) → leb (fields_of t).layout 8 && (not (has_complete (fields_of t).layout) || leb (from_bool (fields_of t).status.collection_complete) 1) ≡ true
     by Type0 = refl
     by Type1 = refl
     by (Type2 p) = refl
@@ -33,7 +34,7 @@ sound_out h t = rw (small h.version.cldic, small h.version.consumed) (by t)
     by (Type0LegacyServer p d k s) = small s.collection_complete
     by (Type0LegacyGpu p s) = small s.collection_complete
 
-status_back : (s : Status) → record { completion_status = s.completion_status; collection_complete = yes (bit s.collection_complete) } ≡ s
+status_back : (s : Status) → record { completion_status = s.completion_status; collection_complete = yes (from_bool s.collection_complete) } ≡ s
 status_back s = ap (λ (c : Bool). record { completion_status = s.completion_status; collection_complete = c }) (yes_no_lem s.collection_complete)
 
 type_back : (h : Header) (t : HeaderType) → type_of (fields_in (flat h (fields_of t))) ≡ t
@@ -70,6 +71,6 @@ header_back h =
     ap₂ (λ (consumed cldic : Bool). rebuilt h consumed cldic (type_of (fields_in (flat h (fields_of h.header_type))))) (yes_no_lem h.version.consumed) (yes_no_lem h.version.cldic)
     ∙ ap (rebuilt h h.version.consumed h.version.cldic) (type_back h h.header_type)
 
-pub taken_back : (h : Header) → taken_of (header_out h) ≡ record { ok = true; header = h }
+pub taken_back : (h : Header) → taken_of (header_out h) ≡ Some h
 unfolding header_out
-taken_back h = ap₂ (λ (ok : Bool) (back : Header). record { ok = ok; header = back }) (sound_out h h.header_type) (header_back h)
+taken_back h = rw (sound_out h h.header_type) (ap Some (header_back h))

@@ -1,36 +1,42 @@
 -- What a C caller gets of a header decode and of an encode, and what they leave behind: every number as it is.
-use Rattle.std.specs.Prelude.{ℕ, cond, List, [], ◌∷◌, eqb}
-use Rattle.answers.specs.Numbers.{done, bad_rules, bad_field}
+use Rattle.std.specs.Prelude.{ℕ, cond, List, [], ◌∷◌, Option, Some, None, Result, Ok, Err}
+use Rattle.answers.specs.Numbers.{done}
 use Rattle.rules.specs.Rules.{valid_of}
 use Rattle.header.specs.Header.{number_of, type_told, ending_told}
-use Rattle.header.specs.declared.Answer.{Answer}
+use Rattle.header.specs.declared.Header.{Header}
 use Rattle.header.specs.declared.Decoded.{Decoded}
-use Rattle.header_encode.specs.Encode.{encoded_of}
-use Rattle.header_encode.specs.Encode.{number_of as encode_number}
-use Rattle.header_encode.specs.declared.Encoded.{Encoded}
-use Rattle.c_header.specs.Header.{header_out, sound, header_in}
+use Rattle.header.specs.declared.Refusal.{Refusal as Refused}
+use Rattle.header_encode.specs.Encode.{encoded_of, number_of as encode_number}
+use Rattle.header_encode.specs.declared.Refusal.{Refusal}
+use Rattle.header_encode.specs.declared.Refusal.TheVariants.{BadRules, BadField}
+use Rattle.c_header.specs.Header.{header_out, taken_of}
 use Rattle.c_header.specs.declared.CHeader.{CHeader}
 
 -- ---- decode
 
 -- what is told beside the answer: the declared bytes, the header's size, the flags, the type of answer 4, and how the records end
-abbrev pub told_of : Answer → ℕ → ℕ → ℕ → List ℕ
-told_of answer declared size flags = declared ∷ size ∷ flags ∷ type_told answer ∷ ending_told answer ∷ []
+abbrev pub told_done : ℕ → ℕ → ℕ → List ℕ
+told_done declared size flags = declared ∷ size ∷ flags ∷ 0 ∷ 0 ∷ []
+
+abbrev pub told_refused : Refused → List ℕ
+told_refused refusal = 0 ∷ 0 ∷ 0 ∷ type_told refusal ∷ ending_told refusal ∷ []
 
 -- the header behind the pointer, which is a new one with answer 0 alone; what is told; the answer
-unfoldable pub decode_out : CHeader → Decoded → CHeader × List ℕ × ℕ
-decode_out old d =
-    (cond (eqb (number_of d.answer) done) (header_out d.header) old, told_of d.answer d.declared d.header_size d.flags, number_of d.answer)
+unfoldable pub decode_out : CHeader → Result Decoded Refused → CHeader × List ℕ × ℕ
+decode_out old (Ok d) = (header_out d.header, told_done d.declared d.header_size d.flags, done)
+decode_out old (Err refusal) = (old, told_refused refusal, number_of refusal)
 
 -- ---- encode
 
--- the output, the length that was written, and the answer
-abbrev pub encoded_out : List ℕ × Encoded → List ℕ × ℕ × ℕ
-encoded_out end = (end.0, end.1.length, encode_number end.1.answer)
+-- a header from C encoded; one that is none is a bad field, which bad rules come before
+abbrev pub encoded_in : List ℕ → Option Header → List ℕ → List ℕ × Result ℕ Refusal
+encoded_in rules (Some h) out = encoded_of rules h out
+encoded_in rules None out = (out, Err (cond (valid_of rules) BadField BadRules))
 
--- bad rules come first, then a header that is none
+-- the output, the length that was written, and the answer
+abbrev pub encoded_out : List ℕ → Result ℕ Refusal → List ℕ × ℕ × ℕ
+encoded_out out (Ok n) = (out, n, done)
+encoded_out out (Err refusal) = (out, 0, encode_number refusal)
+
 unfoldable pub encode_out : List ℕ → CHeader → List ℕ → List ℕ × ℕ × ℕ
-encode_out rules h out =
-    cond (valid_of rules)
-    (cond (sound h) (encoded_out (encoded_of rules (header_in h) out)) (out, 0, bad_field))
-    (out, 0, bad_rules)
+encode_out rules h out = let end = encoded_in rules (taken_of h) out in encoded_out end.0 end.1

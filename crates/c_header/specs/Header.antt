@@ -1,7 +1,7 @@
 -- A header in C's flat form (document 01, 'Record header'): each field of the version, the sizes and the status words as it is,
 -- and of the others those that the layout has, with zeros for the rest.
-use Rattle.std.specs.Prelude.{ℕ, Bool, false, not, ◌&&◌, ◌||◌, List, [], ◌∷◌, eqb, leb, ltb, get_or}
-use Rattle.header_judge.specs.Version.{bit}
+use Rattle.std.specs.Prelude.{ℕ, Bool, false, cond, not, ◌&&◌, ◌||◌, List, [], ◌∷◌, Option, Some, None, eqb, leb, ltb, get_or}
+use Rattle.std.specs.Int.{from_bool}
 use Rattle.header.specs.Layouts.{stamp}
 use Rattle.header.specs.declared.Header.{Header}
 use Rattle.header.specs.declared.Stamp.{Stamp}
@@ -11,7 +11,6 @@ use Rattle.header.specs.declared.HeaderType.TheVariants.{Type0, Type1, Type2, Ty
 use Rattle.c_header.specs.declared.CHeader.{CHeader}
 use Rattle.c_header.specs.declared.Extras.{Extras}
 use Rattle.c_header.specs.declared.Fields.{Fields}
-use Rattle.c_header.specs.declared.Taken.{Taken}
 
 -- yes is 1
 abbrev pub yes : ℕ → Bool
@@ -75,12 +74,12 @@ flat h f =
       extended_record_size = h.size.extended_record_size;
       completion_status_size = f.extras.completion_status_size;
       record_type = h.version.record_type;
-      cldic = bit h.version.cldic;
-      consumed = bit h.version.consumed;
+      cldic = from_bool h.version.cldic;
+      consumed = from_bool h.version.consumed;
       layout = f.layout;
       die_id = f.extras.die_id;
       socket_id = f.extras.socket_id;
-      collection_complete = bit f.status.collection_complete;
+      collection_complete = from_bool f.status.collection_complete;
       reserved = 0;
       completion_statuses = h.completion_statuses;
     }
@@ -152,5 +151,6 @@ header_from c t =
 unfoldable pub header_in : CHeader → Header
 header_in c = header_from c (type_of (fields_in c))
 
-abbrev pub taken_of : CHeader → Taken
-taken_of c = record { ok = sound c; header = header_in c }
+-- none, where a value is not one that C may hand in
+abbrev pub taken_of : CHeader → Option Header
+taken_of c = cond (sound c) (Some (header_in c)) None

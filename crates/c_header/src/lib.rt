@@ -2,7 +2,6 @@
 #![tactic(auto)]
 
 ghost use Rattle.std.specs.Prelude.{◌≡◌};
-ghost use Rattle.header_judge.specs.Version.{bit};
 ghost use Rattle.c_header.specs.Header.{no_stamp, only_complete, error_extras, who_extras, socket_extras, fields_with, fields_of, header_out, has_complete, sound, fields_in, type_of, taken_of};
 
 pub mod codec;
@@ -59,20 +58,7 @@ pub struct Fields {
     pub extras: Extras,
 }
 
-// A header from C, and whether each of its values is one that C may hand in.
-#[derive(Clone, Copy)]
-pub struct Taken {
-    pub ok: bool,
-    pub header: Header,
-}
-
 const LAST_LAYOUT: u8 = 8;
-
-pub fn yes_no(b: bool) -> u8
-    ensures { result ≡ bit b }
-{
-    if b { 1 } else { 0 }
-}
 
 fn no_stamp() -> Stamp
     ensures { result ≡ no_stamp }
@@ -192,17 +178,22 @@ fn fields_of(header_type: HeaderType) -> Fields
 }
 
 // A header for C.
+#[tactic(auto, unfolding(crate::specs::Header::header_out))]
 pub fn header_out(header: Header) -> CHeader
     ensures { result ≡ header_out header }
 {
-    let version = header.version;
-    let size = header.size;
-    let header_type = header.header_type;
-    let fields = fields_of(header_type);
-    let stamp = fields.stamp;
-    let status = fields.status;
-    let extras = fields.extras;
-    let completion_statuses = header.completion_statuses;
+    let Header {
+        version,
+        size,
+        header_type,
+        completion_statuses,
+    } = header;
+    let Fields {
+        layout,
+        stamp,
+        status,
+        extras,
+    } = fields_of(header_type);
     CHeader {
         timestamp: stamp.timestamp,
         revision: version.revision,
@@ -218,14 +209,14 @@ pub fn header_out(header: Header) -> CHeader
         extended_record_size: size.extended_record_size,
         completion_status_size: extras.completion_status_size,
         record_type: version.record_type,
-        cldic: yes_no(version.cldic),
-        consumed: yes_no(version.consumed),
-        layout: fields.layout,
+        cldic: u8::from(version.cldic),
+        consumed: u8::from(version.consumed),
+        layout,
         die_id: extras.die_id,
         socket_id: extras.socket_id,
-        collection_complete: yes_no(status.collection_complete),
+        collection_complete: u8::from(status.collection_complete),
         reserved: 0,
-        completion_statuses: completion_statuses,
+        completion_statuses,
     }
 }
 
@@ -237,6 +228,7 @@ fn has_complete(layout: u8) -> bool
 }
 
 // Whether the layout is one, and each yes/no that the header has is 1 or 0.
+#[tactic(auto, unfolding(crate::specs::Header::sound))]
 fn is_sound(c: CHeader) -> bool
     ensures { result ≡ sound c }
 {
@@ -270,13 +262,15 @@ fn fields_in(c: CHeader) -> Fields
     }
 }
 
-fn type_of(f: Fields) -> HeaderType
-    ensures { result ≡ type_of f }
+fn type_of(fields: Fields) -> HeaderType
+    ensures { result ≡ type_of fields }
 {
-    let layout = f.layout;
-    let stamp = f.stamp;
-    let status = f.status;
-    let extras = f.extras;
+    let Fields {
+        layout,
+        stamp,
+        status,
+        extras,
+    } = fields;
     match layout {
         0 => HeaderType::Type0,
         1 => HeaderType::Type1,
@@ -311,12 +305,15 @@ fn type_of(f: Fields) -> HeaderType
 }
 
 // A header from C. Fields that the layout lacks, and `reserved`, are not looked at.
-pub fn header_in(c: CHeader) -> Taken
+#[tactic(auto, unfolding(crate::specs::Header::header_in))]
+pub fn header_in(c: CHeader) -> Option<Header>
     ensures { result ≡ taken_of c }
 {
+    if !is_sound(c) {
+        return None;
+    }
     let completion_statuses = c.completion_statuses;
-    let header_type = type_of(fields_in(c));
-    let header = Header {
+    Some(Header {
         version: Version {
             revision: c.revision,
             header_type: c.header_type,
@@ -329,11 +326,7 @@ pub fn header_in(c: CHeader) -> Taken
             record_size: c.record_size,
             extended_record_size: c.extended_record_size,
         },
-        header_type,
+        header_type: type_of(fields_in(c)),
         completion_statuses,
-    };
-    Taken {
-        ok: is_sound(c),
-        header,
-    }
+    })
 }
