@@ -87,8 +87,8 @@ fn nothing_at(word: u32, size: usize) -> Found
     Found::Nothing { stop, bad_type }
 }
 
-// The try of the header that is next in a level, whose word and flags are remembered. It finds what `region_try::try_at` finds, from the same parts. One
-// function for both walks would be a call for each record: the compiler opens one of this size only where it is called once.
+// The try of the header that is next in a level, whose word and flags are remembered. It finds what `region_try::try_at` finds, from the same
+// parts. One function for both walks would be a call for each record: the compiler opens one of this size only where it is called once.
 pub fn try_next(
     bytes: &[u8],
     memory: Memory,
