@@ -24,8 +24,8 @@ const EMPTY: Level = Level {
 };
 
 // The records of a whole input, each with what stands inside it. The place is the innermost level, its number, and what is left of the levels
-// around it; one struct of all three would stay in memory, since a number is known only as it runs. A turn makes one try, or goes back to
-// the level around: it counts no index.
+// around it: three variables, since a struct of them would have a method for each line that changes one. A turn makes one try, or goes back
+// to the level around; what a record declares is the step, so that the loop has no index to count.
 pub fn flat_walk(bytes: &[u8], rules: &[u32], limit: u64, room: u32, spans: &mut [u32]) -> Walked
     requires { (length bytes.now ≤ most_bytes) × (room * width ≤ length spans.old) }
     ensures { (spans.new, result) ≡ region_end limit room deepest (region_tries rules.now deepest bytes.now 0 top 0) (going spans.old 0 0 true) }

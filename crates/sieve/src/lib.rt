@@ -22,11 +22,14 @@ impl Sieve {
     pub fn of(rules: &[u32]) -> Sieve
         ensures { Sifts rules.now result }
     {
-        let mask = shared_mask(rules);
-        Sieve {
-            mask,
-            slots: slots_of(rules, mask),
+        let mut sieve = Sieve {
+            mask: shared_mask(rules),
+            slots: [true; SLOTS],
+        };
+        for [_, wanted, _] in rules::rows_of(rules) {
+            sieve.slots[slot_of(*wanted, sieve.mask)] = false;
         }
+        sieve
     }
 
     // Whether a word's slot is free. Then no row applies to it.
@@ -52,15 +55,4 @@ fn slot_of(number: u32, mask: u32) -> usize
 {
     let shared = (number & mask) as u64;
     (shared * SPREAD / 67108864 % 64) as usize
-}
-
-// Which slots are free: those that no row's wanted number has.
-fn slots_of(rules: &[u32], mask: u32) -> [bool; SLOTS]
-    ensures { result ≡ slots_of mask rules.now }
-{
-    let mut slots = [true; SLOTS];
-    for [_, wanted, _] in rules::rows_of(rules) {
-        slots[slot_of(*wanted, mask)] = false;
-    }
-    slots
 }
