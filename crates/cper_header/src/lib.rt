@@ -60,12 +60,7 @@ pub fn is_cper(s: &[u8]) -> bool
     if s.len() < RECORD_HEADER_SIZE {
         return false;
     }
-    let end = u32::read_le(s, SIGNATURE_END_AT);
-    (s[0] == SIGNATURE[0])
-        & (s[1] == SIGNATURE[1])
-        & (s[2] == SIGNATURE[2])
-        & (s[3] == SIGNATURE[3])
-        & (end == SIGNATURE_END)
+    s.starts_with(&SIGNATURE) && u32::read_le(s, SIGNATURE_END_AT) == SIGNATURE_END
 }
 
 // Writes the signature to the output's first four bytes.

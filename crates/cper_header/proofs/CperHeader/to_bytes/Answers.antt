@@ -1,7 +1,6 @@
 -- `CperHeader::to_bytes` writes the fields one after the other.
 -- By what is laid out after each write, which leaves room for the next. Assumes nothing.
 use mathlib.Core.Path.{◌≡◌, refl}
-use Prim.Native.Nat.{ℕ}
 use native.Mathlib.Omega.{arith}
 use Rattle.layout.specs.Fields.{digits}
 use Rattle.std.specs.Prelude.{option_map}
