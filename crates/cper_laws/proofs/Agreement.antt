@@ -7,13 +7,13 @@ use Prim.Native.Nat.{ℕ, zero, suc, ◌+◌, ◌*◌, ◌/◌, ◌≤◌, ◌<�
 use native.Mathlib.Omega.{arith}
 use lib.ListN.{length, get_or, drop}
 use lib.Seq.{take_all}
+use Rattle.std.specs.Prelude.{Result, Ok, Err}
 use Rattle.cper_header.specs.Record.{is_cper}
 use Rattle.answers.specs.Numbers.{most_bytes}
-use Rattle.cper_sections.specs.Sections.{kept_of, section_numbers, section_rows, unlisted, listed_in, sections_of, located, nowhere, place_in, place_of, part_at}
-use Rattle.cper_sections.specs.declared.Answer.TheVariants.{Done}
+use Rattle.cper_sections.specs.Sections.{kept_of, section_numbers, section_rows, listed_in, sections_of, place_in, place_of, part_at}
 use Rattle.cper_sections.specs.declared.kept.Section.{Section}
-use Rattle.cper_sections.specs.declared.Listed.{Listed}
-use Rattle.cper_sections.specs.declared.Located.{Located}
+use Rattle.cper_sections.specs.declared.Place.{Place}
+use Rattle.cper_sections.specs.declared.Refusal.{Refusal}
 use Rattle.cper_normal.specs.Normal.{size_of, normal_of, most_output}
 use Rattle.cper_sections.proofs.Checked.{header_whole, a_cper}
 use Rattle.cper_laws.specs.Again.{body_list}
@@ -22,8 +22,8 @@ use Rattle.cper_laws.proofs.KeptAgain.{normal_is_cper, same_bodies}
 -- ---- the table and one section
 
 -- what a row of a table tells of its section
-abbrev pub row_place : List ℕ → ℕ → Located
-row_place table row = located Done (get_or table (section_numbers * row + 1) 0) (get_or table (section_numbers * row + 2) 0)
+abbrev pub row_place : List ℕ → ℕ → Result Place Refusal
+row_place table row = Ok (record { offset = get_or table (section_numbers * row + 1) 0; length = get_or table (section_numbers * row + 2) 0 })
 
 row_place_lem : (ks : List Section) (rest : List ℕ) (row : ℕ) → row < length ks → place_in ks row ≡ row_place (section_rows ks ++ rest) row
 unfolding place_in section_rows
@@ -37,7 +37,7 @@ row_place_lem (k ∷ ks) rest (suc row) h =
 module _ (cper : List ℕ) (short : length cper ≤ most_bytes) (is : is_cper cper ≡ true) where
   place_is : (row : ℕ) → place_of cper row ≡ place_in (kept_of cper) row
   unfolding place_of
-  place_is row = sym (a_cper cper nowhere (place_in (kept_of cper) row) short is)
+  place_is row = sym (a_cper cper Err (place_in (kept_of cper) row) short is)
 
   -- a row of a table with room for all is what the call on that section tells
   pub table_agrees : (table : List ℕ) (row : ℕ) → length (kept_of cper) ≤ length table / section_numbers → row < length (kept_of cper)
@@ -47,7 +47,7 @@ module _ (cper : List ℕ) (short : length cper ≤ most_bytes) (is : is_cper cp
       let ks = kept_of cper in
       let all = take_all (length table / section_numbers) ks room in
       let after : (sections_of cper table).0 ≡ section_rows ks ++ drop (section_numbers * length ks) table =
-      ap (λ (t : List ℕ × Listed). t.0) (sym (a_cper cper (unlisted table) (listed_in table ks) short is))
+      ap (λ (t : List ℕ × Result ℕ Refusal). t.0) (sym (a_cper cper (λ refusal. (table, Err refusal)) (listed_in table ks) short is))
       ∙ ap (λ (written : List Section). section_rows written ++ drop (section_numbers * length written) table) all in
       place_is row ∙ row_place_lem ks (drop (section_numbers * length ks) table) row h
       ∙ ap (λ (l : List ℕ). row_place l row) (sym after)

@@ -11,11 +11,11 @@ use Rattle.cper_header.specs.Header.{header_of, counted, normal_header, header_b
 use Rattle.cper_header.specs.declared.CperHeader.{CperHeader}
 use Rattle.answers.specs.Numbers.{most_bytes}
 use Rattle.cper_sections.specs.Sections.{descriptor_at, kept_of}
-use Rattle.cper_sections.specs.declared.Answer.TheVariants.{Done}
+use Rattle.std.specs.Prelude.{Ok, Err}
 use Rattle.cper_sections.specs.declared.kept.Section.{Section}
-use Rattle.cper_normal.specs.Normal.{body_sizes, bodies_at, size_of, header_for, descriptors_for, bodies_of, record_of, normal_of, most_output, normalised, unwritten, packed_in, normalised_of}
+use Rattle.cper_normal.specs.Normal.{body_sizes, bodies_at, size_of, header_for, descriptors_for, bodies_of, record_of, normal_of, most_output, packed_in, normalised_of}
 use Rattle.cper_sections.proofs.Checked.{a_cper}
-use Rattle.cper_normal.proofs.Packed.{kept_inside}
+use Rattle.cper_sections.proofs.KeptFrom.{kept_within}
 use Rattle.cper_laws.specs.Again.{repacked}
 use Rattle.cper_laws.proofs.Length.{normal_length}
 use Rattle.cper_laws.proofs.SectionsAgain.{descriptors_again, bodies_again}
@@ -41,7 +41,7 @@ module _ (cper : List ℕ) (bytes : (k : ℕ) → get_or cper k 0 < 256) (whole 
       let ks = kept_of cper in
       let new = normal_of cper in
       let ns = repacked 0 (bodies_at ks) ks in
-      let i = kept_inside cper in
+      let i = kept_within cper in
       let start : bodies_at ns ≡ bodies_at ks = ap (λ (n : ℕ). descriptor_at n) (length-repacked 0 (bodies_at ks) ks) in
       let header : header_for new ns ≡ header_for cper ks =
       ap₂ (λ (n m : ℕ). header_bytes (normal_header (counted n m (header_of new)))) (length-repacked 0 (bodies_at ks) ks) again_size
@@ -55,11 +55,11 @@ module _ (cper : List ℕ) (bytes : (k : ℕ) → get_or cper k 0 < 256) (whole 
 
   -- so the call on a normal form within the length limit writes it as it is
   pub normalise_again : length (normal_of cper) ≤ most_bytes → (out : List ℕ) → length (normal_of cper) ≤ length out
-      → normalised_of (normal_of cper) out ≡ (normal_of cper ++ drop (length (normal_of cper)) out, normalised Done (length (normal_of cper)))
+      → normalised_of (normal_of cper) out ≡ (normal_of cper ++ drop (length (normal_of cper)) out, Ok (length (normal_of cper)))
   unfolding normalised_of packed_in
   normalise_again short out room =
       let new = normal_of cper in
       let size : size_of (kept_of new) ≡ length new = ap size_of (kept_again cper bytes whole small) ∙ again_size ∙ sym (normal_length cper whole) in
-      sym (a_cper new (unwritten out) (packed_in new out) short (normal_is_cper cper bytes whole small))
+      sym (a_cper new (λ refusal. (out, Err refusal)) (packed_in new out) short (normal_is_cper cper bytes whole small))
       ∙ rw (le-leb (size_of (kept_of new)) (length out) (omega arith), le-leb (size_of (kept_of new)) most_output (omega arith))
-      (ap₂ (λ (l : List ℕ) (n : ℕ). (l ++ drop n out, normalised Done n)) idempotent size)
+      (ap₂ (λ (l : List ℕ) (n : ℕ). (l ++ drop n out, Ok n)) idempotent size)

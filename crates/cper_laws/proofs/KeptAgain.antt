@@ -1,9 +1,9 @@
 -- Every kept section of a CPER is kept again in its normal form, in order, with the same body.
 -- By reading back the header and the descriptors that were written. Assumes nothing.
 use mathlib.Core.Path.{◌≡◌, sym, ap, ◌∙◌}
-use mathlib.Core.List.{List, [], ◌∷◌, ◌++◌, append-nil}
-use mathlib.Core.Bool.{Bool, true, false, cond}
-use Prim.Native.Nat.{ℕ, zero, suc, ◌*◌, ◌^◌, ◌≤◌, ◌<◌}
+use mathlib.Core.List.{List, [], ◌++◌, append-nil}
+use mathlib.Core.Bool.{true}
+use Prim.Native.Nat.{ℕ, ◌*◌, ◌^◌, ◌≤◌, ◌<◌}
 use native.Mathlib.Omega.{arith}
 use lib.ListN.{length, get_or}
 use lib.Seq.{drop_at}
@@ -11,29 +11,18 @@ use Rattle.le.proofs.Laws.{le_lt}
 use Rattle.cper_header.specs.Record.{header_size, is_cper, count_of}
 use Rattle.cper_header.specs.Header.{header_of, counted, normal_header}
 use Rattle.cper_descr.specs.Descriptor.{descriptor_size}
-use Rattle.cper_sections.specs.Sections.{told, keeps, kept_from, kept_of}
+use Rattle.cper_sections.specs.Sections.{kept_from, kept_of}
 use Rattle.cper_normal.specs.Normal.{bodies_at, size_of, header_for, descriptors_for, bodies_of, normal_of, most_output}
-use Rattle.cper_normal.proofs.Packed.{kept_inside}
+use Rattle.cper_sections.proofs.KeptFrom.{length-kept, kept_within}
 use Rattle.cper_laws.specs.Again.{repacked, body_list}
 use Rattle.cper_laws.proofs.Length.{length_descriptors, length-header_for, normal_length}
 use Rattle.cper_laws.proofs.Reading.{From, past}
 use Rattle.cper_laws.proofs.HeaderAgain.{Plain, header_plain, header_again, count_again, cper_again}
 use Rattle.cper_laws.proofs.SectionsAgain.{kept_sized, sections_again, bodies_again}
 
--- at most as many sections are kept as there are descriptors
-length-kept : (cper : List ℕ) (i n : ℕ) → length (kept_from cper i n) ≤ n
-unfolding kept_from
-length-kept cper i zero = omega arith
-length-kept cper i (suc n) = by_kept (keeps cper i) (length-kept cper (suc i) n)
-  where
-    by_kept : (t : Bool) → length (kept_from cper (suc i) n) ≤ n → length (cond t (told cper i ∷ kept_from cper (suc i) n) (kept_from cper (suc i) n)) ≤ suc n
-    by_kept true h = omega arith
-    by_kept false h = omega arith
-
 module _ (cper : List ℕ) (bytes : (k : ℕ) → get_or cper k 0 < 256) (whole : header_size ≤ length cper) (small : size_of (kept_of cper) ≤ most_output) where
   few : length (kept_of cper) < 256 ^ 2
-  unfolding kept_of
-  few = let h = le_lt cper bytes 10 2 in omega (arith, length-kept cper 0 (count_of cper))
+  few = let h = le_lt cper bytes 10 2 in omega (arith, length-kept cper)
 
   pub plain : Plain (normal_header (counted (length (kept_of cper)) (size_of (kept_of cper)) (header_of cper)))
   plain = header_plain cper bytes whole (length (kept_of cper)) (size_of (kept_of cper)) few (omega arith)
@@ -49,7 +38,7 @@ module _ (cper : List ℕ) (bytes : (k : ℕ) → get_or cper k 0 < 256) (whole 
   bodies_stand =
       let ks = kept_of cper in
       let bodies =
-      past (descriptor_size * length ks) (descriptors_for cper ks (bodies_at ks)) (bodies_of cper ks) (length_descriptors cper ks (bodies_at ks) (kept_inside cper)) descriptors_stand in
+      past (descriptor_size * length ks) (descriptors_for cper ks (bodies_at ks)) (bodies_of cper ks) (length_descriptors cper ks (bodies_at ks) (kept_within cper)) descriptors_stand in
       record { is = bodies.is ∙ sym (append-nil (bodies_of cper ks)) }
 
   pub normal_is_cper : is_cper (normal_of cper) ≡ true
@@ -78,10 +67,10 @@ module _ (cper : List ℕ) (bytes : (k : ℕ) → get_or cper k 0 < 256) (whole 
       let ks = kept_of cper in
       let size = normal_length cper whole in
       ap (kept_from (normal_of cper) 0) normal_count
-      ∙ sections_again cper bytes (normal_of cper) ks 0 (bodies_at ks) (bodies_of cper ks) (kept_inside cper) (kept_sized cper) (omega arith) (omega arith) descriptors_stand
+      ∙ sections_again cper bytes (normal_of cper) ks 0 (bodies_at ks) (bodies_of cper ks) (kept_within cper) (kept_sized cper) (omega arith) (omega arith) descriptors_stand
 
   -- with the same bodies, in order
   pub same_bodies : body_list (normal_of cper) (kept_of (normal_of cper)) ≡ body_list cper (kept_of cper)
   same_bodies =
       let ks = kept_of cper in
-      ap (body_list (normal_of cper)) kept_again ∙ (bodies_again cper bytes (normal_of cper) ks 0 (bodies_at ks) [] (kept_inside cper) bodies_stand).0
+      ap (body_list (normal_of cper)) kept_again ∙ (bodies_again cper bytes (normal_of cper) ks 0 (bodies_at ks) [] (kept_within cper) bodies_stand).0

@@ -16,7 +16,8 @@ use Rattle.cper_sections.specs.Sections.{descriptor_at, told, keeps, kept_from, 
 use Rattle.cper_sections.specs.Steps.{Within}
 use Rattle.cper_sections.specs.declared.kept.Section.{Section}
 use Rattle.cper_normal.specs.Normal.{body_sizes, most_output, descriptor_for, descriptors_for, bodies_of}
-use Rattle.cper_normal.proofs.Packed.{Inside, length-body, length-descriptor_for}
+use Rattle.cper_sections.specs.Steps.{AllWithin}
+use Rattle.cper_normal.proofs.Packed.{length-body, length-descriptor_for}
 use Rattle.cper_laws.specs.Again.{repacked, body_list}
 use Rattle.cper_laws.proofs.Reading.{From, le-drop, past, read_bytes}
 use Rattle.cper_laws.proofs.DescriptorAgain.{descriptor_again, descriptor_plain}
@@ -80,7 +81,7 @@ module _ (cper : List ℕ) (bytes : (k : ℕ) → get_or cper k 0 < 256) (new : 
   apart k ks row to after from = record { is = from.is ∙ append_assoc (descriptor_for cper k to) (descriptors_for cper ks (to + k.size)) after }
 
   -- the sections are kept again
-  pub sections_again : (ks : List Section) (row to : ℕ) (after : List ℕ) → Inside cper ks → Sized cper ks
+  pub sections_again : (ks : List Section) (row to : ℕ) (after : List ℕ) → AllWithin cper ks → Sized cper ks
       → to + body_sizes ks ≤ length new → to + body_sizes ks ≤ most_output
       → From new (descriptor_at row) (descriptors_for cper ks to ++ after) → kept_from new row (length ks) ≡ repacked row to ks
   unfolding kept_from repacked body_sizes
@@ -99,7 +100,7 @@ module _ (cper : List ℕ) (bytes : (k : ℕ) → get_or cper k 0 < 256) (new : 
       ∙ sections_again ks (row + 1) (to + k.size) after i.1 s.1 (omega arith) (omega arith) (next k row to (descriptors_for cper ks (to + k.size) ++ after) i.0 here)))
 
   -- their descriptors are the same
-  pub descriptors_again : (ks : List Section) (row to : ℕ) (after : List ℕ) → Inside cper ks → to + body_sizes ks ≤ most_output
+  pub descriptors_again : (ks : List Section) (row to : ℕ) (after : List ℕ) → AllWithin cper ks → to + body_sizes ks ≤ most_output
       → From new (descriptor_at row) (descriptors_for cper ks to ++ after) → descriptors_for new (repacked row to ks) to ≡ descriptors_for cper ks to
   unfolding descriptors_for repacked body_sizes
   descriptors_again [] row to after i small from = refl
@@ -111,7 +112,7 @@ module _ (cper : List ℕ) (bytes : (k : ℕ) → get_or cper k 0 < 256) (new : 
       (descriptors_again ks (row + 1) (to + k.size) after i.1 (omega arith) (next k row to (descriptors_for cper ks (to + k.size) ++ after) i.0 here))
 
   -- so are their bodies
-  pub bodies_again : (ks : List Section) (row to : ℕ) (after : List ℕ) → Inside cper ks → From new to (bodies_of cper ks ++ after)
+  pub bodies_again : (ks : List Section) (row to : ℕ) (after : List ℕ) → AllWithin cper ks → From new to (bodies_of cper ks ++ after)
       → (body_list new (repacked row to ks) ≡ body_list cper ks) × (bodies_of new (repacked row to ks) ≡ bodies_of cper ks)
   unfolding body_list bodies_of repacked
   bodies_again [] row to after i from = (refl, refl)

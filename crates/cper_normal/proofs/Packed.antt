@@ -2,43 +2,22 @@
 -- By induction over the sections, with the bytes written so far set apart from those still to be written. Assumes nothing.
 use mathlib.Core.Path.{◌≡◌, refl, sym, ap, ap₂, ◌∙◌}
 use mathlib.Core.List.{List, [], ◌∷◌, ◌++◌, append_assoc}
-use mathlib.Core.Bool.{Bool, true, false, cond}
-use Prim.Native.Nat.{ℕ, zero, suc, ◌+◌, ◌*◌, ◌≤◌}
+use Prim.Native.Nat.{ℕ, ◌+◌, ◌*◌, ◌≤◌}
 use native.Mathlib.Omega.{arith}
 use lib.ListN.{length, take, drop, length-append, length-drop, take-append-drop}
 use lib.Seq.{take_at, drop_at, drop-drop, length-take-le}
 use Rattle.cper_fields.specs.Fields.{over}
-use Rattle.cper_header.specs.Record.{header_size, count_of}
+use Rattle.cper_header.specs.Record.{header_size}
 use Rattle.cper_descr.specs.Descriptor.{descriptor_size, descriptor_of, bits_of}
 use Rattle.cper_fields.proofs.Lengths.{length_part}
 use Rattle.cper_descr.proofs.Lengths.{length-descriptor_read}
-use Rattle.cper_sections.specs.Sections.{descriptor_at, told, keeps, kept_from, kept_of, body_of}
-use Rattle.cper_sections.specs.Steps.{Within}
+use Rattle.cper_sections.specs.Sections.{descriptor_at, body_of}
+use Rattle.cper_sections.specs.Steps.{Within, AllWithin}
 use Rattle.cper_sections.specs.declared.kept.Section.{Section}
 use Rattle.cper_normal.specs.Normal.{body_sizes, bodies_at, size_of, descriptor_for, descriptors_for, bodies_of}
 use Rattle.cper_normal.specs.Steps.{with_section, pack}
-use Rattle.cper_sections.proofs.KeptFrom.{keeps_within}
 
 -- ---- sections of the input
-
--- each section's descriptor and body lie in the input
-abbrev pub Inside : List ℕ → List Section → Type 0
-Inside cper [] = Unit {0}
-Inside cper (k ∷ ks) = Within cper k × Inside cper ks
-
-kept_from_inside : (cper : List ℕ) (i n : ℕ) → Inside cper (kept_from cper i n)
-unfolding kept_from
-kept_from_inside cper i zero = tt
-kept_from_inside cper i (suc n) = by_kept (keeps cper i) refl (kept_from_inside cper (suc i) n)
-  where
-    by_kept : (t : Bool) → keeps cper i ≡ t → Inside cper (kept_from cper (suc i) n) → Inside cper (cond t (told cper i ∷ kept_from cper (suc i) n) (kept_from cper (suc i) n))
-    by_kept true e rest = (keeps_within cper i e, rest)
-    by_kept false e rest = rest
-
--- so do the kept ones'
-pub kept_inside : (cper : List ℕ) → Inside cper (kept_of cper)
-unfolding kept_of
-kept_inside cper = kept_from_inside cper 0 (count_of cper)
 
 pub length-body : (cper : List ℕ) (k : Section) → Within cper k → length (body_of cper k) ≡ k.size
 length-body cper k h = length_part cper k.offset k.size h.body
@@ -85,7 +64,7 @@ one_section cper k row to front slot slots bodies old rest f s o t d =
 
 -- `front` up to a row's descriptor, `slots` for the descriptors still to be written, the bodies so far, `rest`
 pack_from : (cper : List ℕ) (ks : List Section) (row to : ℕ) (front slots bodies rest : List ℕ)
-    → Inside cper ks → length front ≡ descriptor_at row → length slots ≡ descriptor_size * length ks → length front + length slots + length bodies ≡ to → body_sizes ks ≤ length rest
+    → AllWithin cper ks → length front ≡ descriptor_at row → length slots ≡ descriptor_size * length ks → length front + length slots + length bodies ≡ to → body_sizes ks ≤ length rest
     → pack cper (front ++ (slots ++ (bodies ++ rest))) row to ks ≡ front ++ (descriptors_for cper ks to ++ (bodies ++ (bodies_of cper ks ++ drop (body_sizes ks) rest)))
 unfolding pack descriptors_for bodies_of body_sizes
 pack_from cper [] row to front [] bodies rest i f s t r = refl
@@ -112,7 +91,7 @@ pack_from cper (k ∷ ks) row to front slots bodies rest i f s t r =
     ∙ simp (append_assoc, drop-drop)
 
 -- a record's header, and then its sections
-pub packed : (cper out : List ℕ) (ks : List Section) (header : List ℕ) → Inside cper ks → length header ≡ header_size → size_of ks ≤ length out
+pub packed : (cper out : List ℕ) (ks : List Section) (header : List ℕ) → AllWithin cper ks → length header ≡ header_size → size_of ks ≤ length out
     → pack cper (header ++ drop header_size out) 0 (bodies_at ks) ks ≡ header ++ (descriptors_for cper ks (bodies_at ks) ++ bodies_of cper ks) ++ drop (size_of ks) out
 packed cper out ks header i h r =
     let room = drop header_size out in

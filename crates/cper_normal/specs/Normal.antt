@@ -1,14 +1,13 @@
 -- The normal form of a CPER (document 01, 'CPER'): the kept sections in order, their bodies packed after the descriptors.
-use Rattle.std.specs.Prelude.{ℕ, ◌+◌, ◌*◌, List, [], ◌∷◌, ◌++◌, cond, ◌&&◌, leb, length, drop}
+use Rattle.std.specs.Prelude.{ℕ, ◌+◌, ◌*◌, List, [], ◌∷◌, ◌++◌, cond, ◌&&◌, leb, length, drop, Result, Ok, Err}
 use Rattle.cper_header.specs.Record.{header_size}
 use Rattle.cper_header.specs.Header.{header_of, counted, normal_header, header_bytes}
 use Rattle.cper_descr.specs.Descriptor.{descriptor_size, descriptor_of, moved, normal_descriptor, descriptor_bytes}
 use Rattle.cper_sections.specs.Answers.{checked}
 use Rattle.cper_sections.specs.Sections.{descriptor_at, kept_of, body_of}
-use Rattle.cper_sections.specs.declared.Answer.{Answer}
-use Rattle.cper_sections.specs.declared.Answer.TheVariants.{Done, OutputShort}
+use Rattle.cper_sections.specs.declared.Refusal.{Refusal}
+use Rattle.cper_sections.specs.declared.Refusal.TheVariants.{OutputShort}
 use Rattle.cper_sections.specs.declared.kept.Section.{Section}
-use Rattle.cper_normal.specs.declared.Normalised.{Normalised}
 
 -- ---- its length
 
@@ -56,20 +55,12 @@ normal_of cper = record_of cper (kept_of cper)
 abbrev pub most_output : ℕ
 most_output = 0xFFFF_FFFF
 
--- what is told of so many bytes written
-abbrev pub normalised : Answer → ℕ → Normalised
-normalised answer size = record { answer = answer; length = size }
-
--- a refusal leaves the output as it is
-abbrev pub unwritten : List ℕ → Answer → List ℕ × Normalised
-unwritten out answer = (out, normalised answer 0)
-
--- the output with the normal form, where that fits, and what is told
-unfoldable pub packed_in : List ℕ → List ℕ → List ℕ × Normalised
+-- the output with the normal form, where that fits, and its length
+unfoldable pub packed_in : List ℕ → List ℕ → List ℕ × Result ℕ Refusal
 packed_in cper out =
     let size = size_of (kept_of cper) in
-    cond (leb size (length out) && leb size most_output) (normal_of cper ++ drop size out, normalised Done size) (unwritten out OutputShort)
+    cond (leb size (length out) && leb size most_output) (normal_of cper ++ drop size out, Ok size) (out, Err OutputShort)
 
--- the output after the call, and what is told
-unfoldable pub normalised_of : List ℕ → List ℕ → List ℕ × Normalised
-normalised_of cper out = checked cper (unwritten out) (packed_in cper out)
+-- the output after the call, which a refusal leaves as it is, and what is told
+unfoldable pub normalised_of : List ℕ → List ℕ → List ℕ × Result ℕ Refusal
+normalised_of cper out = checked cper (λ refusal. (out, Err refusal)) (packed_in cper out)

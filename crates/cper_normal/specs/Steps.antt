@@ -1,5 +1,5 @@
 -- What the inner functions ask and give: the sections measured, one section written, all of them one after the other.
-use Rattle.std.specs.Prelude.{ℕ, ◌+◌, ◌≤◌, ◌<◌, ◌≡◌, List, [], ◌∷◌, length}
+use Rattle.std.specs.Prelude.{ℕ, ◌+◌, ◌≤◌, ◌≡◌, List, [], ◌∷◌, length}
 use Rattle.cper_fields.specs.Fields.{over}
 use Rattle.cper_header.specs.Record.{header_size}
 use Rattle.cper_descr.specs.Descriptor.{descriptor_size}
@@ -13,11 +13,9 @@ use Rattle.cper_normal.specs.declared.Extent.{Extent}
 pub record Measured (ks : List Section) (r : Extent) : Type 0 where
   pub kept : r.kept ≡ length ks
   pub size : r.size ≡ size_of ks
-  pub few : r.kept < 65536
 
 -- a section lies in the input, and there is room for it in the output
 pub record Placed (cper : List ℕ) (k : Section) (out : List ℕ) (row to : ℕ) : Type 0 where
-  pub few : (k.index < 65536) × (row < 65536)
   pub section : Within cper k
   pub before : descriptor_at row + descriptor_size ≤ length out
   pub room : to + k.size ≤ length out
@@ -36,7 +34,6 @@ pack cper out row to (k ∷ ks) = pack cper (with_section cper out row to k) (ro
 -- there is room for the kept sections
 pub record RoomForKept (cper out : List ℕ) (kept : ℕ) : Type 0 where
   pub header : header_size ≤ length cper
-  pub few : kept < 65536
   pub count : kept ≡ length (kept_of cper)
   pub room : size_of (kept_of cper) ≤ length out
   pub small : size_of (kept_of cper) ≤ most_output

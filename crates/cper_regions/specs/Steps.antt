@@ -1,18 +1,12 @@
 -- What the inner functions ask and give: the regions of some sections, walked one after the other.
-use Rattle.std.specs.Prelude.{ℕ, ◌*◌, ◌≤◌, ◌<◌, List, length}
+use Rattle.std.specs.Prelude.{ℕ, ◌*◌, ◌≤◌, List, length}
 use Rattle.answers.specs.Numbers.{most_bytes}
 use Rattle.region_rows.specs.Rows.{width}
 use Rattle.region_try.specs.Steps.{Walk, run}
 use Rattle.region_walk.specs.declared.bounds.Bounds.{Bounds}
-use Rattle.cper_sections.specs.Steps.{Within}
 use Rattle.cper_sections.specs.declared.kept.Section.{Section}
 use Rattle.cper_regions.specs.Regions.{regions_in}
 use Rattle.cper_regions.specs.Listing.{joined_tries}
-
--- a kept section: its index has 16 bits, and it lies in the CPER
-pub record Kept (cper : List ℕ) (k : Section) : Type 0 where
-  pub few : k.index < 65536
-  pub within : Within cper k
 
 -- what a walk asks: offsets fit their type, and the rows fit in the lent table
 pub record Openable (cper : List ℕ) (b : Bounds) (spans : List ℕ) : Type 0 where

@@ -6,13 +6,14 @@ ghost use Rattle.region_rows.specs.Rows.{width};
 ghost use Rattle.region_walk.specs.Steps.{going};
 ghost use Rattle.cper_header.specs.Record.{header_size};
 ghost use Rattle.cper_sections.specs.Sections.{kept_of};
+ghost use Rattle.cper_sections.specs.Steps.{Within};
 ghost use Rattle.cper_regions.specs.Listing.{cper_listed};
-ghost use Rattle.cper_regions.specs.Steps.{Kept, Openable, sections_run};
+ghost use Rattle.cper_regions.specs.Steps.{Openable, sections_run};
 
 pub mod opened;
 
 use answers::MOST_BYTES;
-use cper_sections::kept::{Next, Section, next_kept};
+use cper_sections::kept::{Kept, Section};
 use opened::{SECTION_HEADER_SIZE, is_opened};
 use region::{Answer, Listing};
 use region_rows::TOP;
@@ -37,7 +38,7 @@ fn walk_section(
     whole: bool,
     spans: &mut [u32],
 ) -> State
-    requires { Kept cper.now section × Openable cper.now bounds.now spans.old }
+    requires { Within cper.now section × Openable cper.now bounds.now spans.old }
     ensures { (spans.new, result) ≡ sections_run cper.now record_id.now bounds.now (section ∷ []) (going spans.old rows tries whole) }
 {
     if !is_opened(cper, record_id, section) {
@@ -69,21 +70,10 @@ fn walk_sections(cper: &[u8], record_id: &[u8; 16], bounds: &Bounds, spans: &mut
     requires { (header_size ≤ length cper.now) × Openable cper.now bounds.now spans.old }
     ensures { (spans.new, result) ≡ sections_run cper.now record_id.now bounds.now (kept_of cper.now) (going spans.old 0 0 true) }
 {
-    let count = cper_header::section_count(cper) as usize;
     let mut rows: u32 = 0;
     let mut tries: u64 = 0;
     let mut whole = true;
-    let mut index: usize = 0;
-    loop {
-        let next = next_kept(cper, index, count);
-        let Next::Kept(section) = next else {
-            return State {
-                rows,
-                tries,
-                whole,
-                cut: Cut::Going,
-            };
-        };
+    for section in Kept::new(cper) {
         let walked = walk_section(cper, section, record_id, bounds, rows, tries, whole, spans);
         if walked.cut != Cut::Going {
             return walked;
@@ -91,7 +81,12 @@ fn walk_sections(cper: &[u8], record_id: &[u8; 16], bounds: &Bounds, spans: &mut
         whole = walked.whole;
         tries = walked.tries;
         rows = walked.rows;
-        index = section.index + 1;
+    }
+    State {
+        rows,
+        tries,
+        whole,
+        cut: Cut::Going,
     }
 }
 

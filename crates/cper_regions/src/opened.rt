@@ -2,7 +2,7 @@
 ghost use Rattle.std.specs.Prelude.{◌≡◌, ◌+◌, ◌≤◌, length, drop};
 ghost use Rattle.cper_header.specs.Record.{starts_with};
 ghost use Rattle.cper_regions.specs.Regions.{is_opened};
-ghost use Rattle.cper_regions.specs.Steps.{Kept};
+ghost use Rattle.cper_sections.specs.Steps.{Within};
 
 use cper_sections::kept::{Section, descriptor_at};
 
@@ -16,26 +16,23 @@ pub(crate) const SECTION_HEADER_SIZE: usize = 32;
 const RECORD_ID_AT: usize = 16;
 
 // Whether the bytes from an offset on start with a GUID's. All sixteen are compared, so that it can be one step.
-fn starts_with(s: &[u8], at: usize, guid: [u8; 16]) -> bool
+fn starts_with(s: &[u8], at: usize, guid: &[u8; 16]) -> bool
     requires { at + 16 ≤ length s.now }
-    ensures { result ≡ starts_with guid (drop at s.now) }
+    ensures { result ≡ starts_with guid.now (drop at s.now) }
 {
-    let mut same = true;
-    let mut i: usize = 0;
-    while i < 16 {
-        same = same & (s[at + i] == guid[i]);
-        i = i + 1;
-    }
-    same
+    s[at..at + 16]
+        .iter()
+        .zip(guid)
+        .fold(true, |same, (byte, wanted)| same & (*byte == *wanted))
 }
 
 // Whether a kept section is opened.
 pub(crate) fn is_opened(cper: &[u8], record_id: &[u8; 16], section: Section) -> bool
-    requires { Kept cper.now section }
+    requires { Within cper.now section }
     ensures { result ≡ is_opened cper.now record_id.now section }
 {
     let type_at = descriptor_at(section.index) + cper_descr::SECTION_TYPE_AT;
-    if !starts_with(cper, type_at, FIRMWARE_ERROR_RECORD) {
+    if !starts_with(cper, type_at, &FIRMWARE_ERROR_RECORD) {
         return false;
     }
     if (section.size as usize) < SECTION_HEADER_SIZE {
@@ -43,5 +40,5 @@ pub(crate) fn is_opened(cper: &[u8], record_id: &[u8; 16], section: Section) -> 
     }
     let start = section.offset as usize;
     let end = start + (section.size as usize);
-    starts_with(&cper[start..end], RECORD_ID_AT, *record_id)
+    starts_with(&cper[start..end], RECORD_ID_AT, record_id)
 }

@@ -17,9 +17,9 @@ use Rattle.region_laws.specs.Clauses.{Every}
 use Rattle.cper_header.specs.Record.{header_size, starts_with, count_of}
 use Rattle.cper_descr.specs.Descriptor.{descriptor_size, type_at}
 use Rattle.cper_sections.specs.Sections.{descriptor_at, told, keeps, kept_from, kept_of, body_of}
-use Rattle.cper_sections.specs.Steps.{Within}
+use Rattle.cper_sections.specs.Steps.{Within, AllWithin}
 use Rattle.cper_sections.specs.declared.kept.Section.{Section}
-use Rattle.cper_sections.proofs.KeptFrom.{keeps_within}
+use Rattle.cper_sections.proofs.KeptFrom.{keeps_within, kept_within}
 use Rattle.cper_regions.specs.Regions.{firmware_error_record, section_header, identifier_at, is_firmware_error, is_identified, is_opened, Region, region_of, regions_in, regions_of}
 use Rattle.cper_regions.specs.Listing.{cper_listed}
 use Rattle.cper_regions.proofs.Openings.{opened_long, region_part}
@@ -81,16 +81,7 @@ region_lies cper k w long =
     record { inside = omega arith; is = sym (region_part cper k long) ∙ ap (λ (m : ℕ). take m from) (sym n) }
 
 module _ (cper id : List ℕ) where
-  kept_within : (i n : ℕ) → Every (Within cper) (kept_from cper i n)
-  unfolding kept_from Every
-  kept_within i zero = tt
-  kept_within i (suc n) = by (keeps cper i) refl (kept_within (suc i) n)
-    where
-      by : (b : Bool) → keeps cper i ≡ b → Every (Within cper) (kept_from cper (suc i) n) → Every (Within cper) (cond b (told cper i ∷ kept_from cper (suc i) n) (kept_from cper (suc i) n))
-      by true e rest = (keeps_within cper i e, rest)
-      by false e rest = rest
-
-  regions_in_lem : (ks : List Section) → Every (Within cper) ks → Every (Lies cper) (regions_in cper id ks)
+  regions_in_lem : (ks : List Section) → AllWithin cper ks → Every (Lies cper) (regions_in cper id ks)
   unfolding regions_in Every
   regions_in_lem [] w = tt
   regions_in_lem (k ∷ ks) w = by (is_opened cper id k) refl (regions_in_lem ks w.1)
@@ -101,8 +92,8 @@ module _ (cper id : List ℕ) where
 
   -- each region is the file's bytes from its offset on
   pub regions_lie : Every (Lies cper) (regions_of cper id)
-  unfolding regions_of kept_of
-  regions_lie = regions_in_lem (kept_from cper 0 (count_of cper)) (kept_within 0 (count_of cper))
+  unfolding regions_of
+  regions_lie = regions_in_lem (kept_of cper) (kept_within cper)
 
   -- ---- how many
 

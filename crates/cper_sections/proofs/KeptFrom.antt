@@ -6,17 +6,19 @@ use mathlib.Core.Bool.{Bool, true, false, cond}
 use Prim.Native.Nat.{ℕ, zero, suc, ◌+◌, ◌-◌, ◌≤◌, ◌<◌}
 use native.Mathlib.Nat.{sub-zero}
 use native.Mathlib.Omega.{arith}
-use lib.Dec.{leb, ltb}
+use lib.Dec.{leb}
 use lib.ListN.{length}
 use borrow.Author.Tests.{leb-true}
 use Rattle.basics.proofs.Bools.{both}
-use Rattle.answers.specs.Numbers.{most_bytes}
-use Rattle.cper_header.specs.Record.{is_cper, count_of}
+use Rattle.cper_header.specs.Record.{count_of}
 use Rattle.cper_descr.specs.Descriptor.{descriptor_size}
-use Rattle.cper_sections.specs.Sections.{descriptor_at, told, keeps, kept_from, kept_of, nowhere, place_in, place_of}
-use Rattle.cper_sections.specs.Steps.{Within, kept_in}
-use Rattle.cper_sections.specs.declared.Answer.TheVariants.{TooLong, NotCper}
-use Rattle.cper_sections.specs.declared.Located.{Located}
+use Rattle.std.specs.Prelude.{Result, Ok, Err}
+use Rattle.cper_sections.specs.Answers.{check_of, after}
+use Rattle.cper_sections.specs.Sections.{descriptor_at, told, keeps, kept_from, kept_of, place_in, place_of}
+use Rattle.cper_sections.specs.Steps.{Within, AllWithin, kept_in}
+use Rattle.cper_sections.specs.declared.kept.Section.{Section}
+use Rattle.cper_sections.specs.declared.Place.{Place}
+use Rattle.cper_sections.specs.declared.Refusal.{Refusal}
 
 -- ---- from an index on
 
@@ -40,6 +42,20 @@ kept_next cper i n kept h e =
     ap (kept_from cper i) more
     ∙ ap₂ (λ (t : Bool) (j : ℕ). cond t (told cper i ∷ kept_from cper j (n - (i + 1))) (kept_from cper j (n - (i + 1)))) e after
 
+-- at most as many are kept as there are descriptors
+length-kept_from : (cper : List ℕ) (i n : ℕ) → length (kept_from cper i n) ≤ n
+unfolding kept_from
+length-kept_from cper i zero = omega arith
+length-kept_from cper i (suc n) = by_kept (keeps cper i) (length-kept_from cper (suc i) n)
+  where
+    by_kept : (t : Bool) → length (kept_from cper (suc i) n) ≤ n → length (cond t (told cper i ∷ kept_from cper (suc i) n) (kept_from cper (suc i) n)) ≤ suc n
+    by_kept true h = omega arith
+    by_kept false h = omega arith
+
+pub length-kept : (cper : List ℕ) → length (kept_of cper) ≤ count_of cper
+unfolding kept_of
+length-kept cper = length-kept_from cper 0 (count_of cper)
+
 -- ---- where the sections lie
 
 pub keeps_within : (cper : List ℕ) (i : ℕ) → keeps cper i ≡ true → Within cper (told cper i)
@@ -50,26 +66,35 @@ keeps_within cper i e =
       body = leb-true ((told cper i).offset + (told cper i).size) (length cper) q.1;
     }
 
--- a place lies in the input, with nothing at 0 where none is told
-Inside : List ℕ → Located → Type 0
-Inside cper place = place.offset + place.length ≤ length cper
-
-place_in_lem : (cper : List ℕ) (i n row : ℕ) → Inside cper (place_in (kept_from cper i n) row)
-unfolding Inside place_in kept_from
-place_in_lem cper i zero row = omega arith
-place_in_lem cper i (suc n) row = by_kept (keeps cper i) row refl (place_in_lem cper (suc i) n)
+kept_from_within : (cper : List ℕ) (i n : ℕ) → AllWithin cper (kept_from cper i n)
+unfolding kept_from
+kept_from_within cper i zero = tt
+kept_from_within cper i (suc n) = by_kept (keeps cper i) refl (kept_from_within cper (suc i) n)
   where
-    by_kept : (t : Bool) (r : ℕ) → keeps cper i ≡ t → ((q : ℕ) → Inside cper (place_in (kept_from cper (suc i) n) q))
-        → Inside cper (place_in (cond t (told cper i ∷ kept_from cper (suc i) n) (kept_from cper (suc i) n)) r)
-    by_kept true zero e rest = (keeps_within cper i e).body
-    by_kept true (suc r) e rest = rest r
-    by_kept false r e rest = rest r
+    by_kept : (t : Bool) → keeps cper i ≡ t → AllWithin cper (kept_from cper (suc i) n) → AllWithin cper (cond t (told cper i ∷ kept_from cper (suc i) n) (kept_from cper (suc i) n))
+    by_kept true e rest = (keeps_within cper i e, rest)
+    by_kept false e rest = rest
 
-pub place_within : (cper : List ℕ) (row : ℕ) → (place_of cper row).offset + (place_of cper row).length ≤ length cper
-unfolding Inside place_of kept_of
-place_within cper row = by_check (ltb most_bytes (length cper)) (is_cper cper)
+-- all of them in the input
+pub kept_within : (cper : List ℕ) → AllWithin cper (kept_of cper)
+unfolding kept_of
+kept_within cper = kept_from_within cper 0 (count_of cper)
+
+-- a place that is told lies in the input
+abbrev pub PlaceWithin : List ℕ → Result Place Refusal → Type 0
+PlaceWithin cper (Ok place) = place.offset + place.length ≤ length cper
+PlaceWithin cper (Err _) = Unit {0}
+
+place_in_within : (cper : List ℕ) (ks : List Section) → AllWithin cper ks → (row : ℕ) → PlaceWithin cper (place_in ks row)
+unfolding place_in
+place_in_within cper [] i row = tt
+place_in_within cper (k ∷ ks) i zero = i.0.body
+place_in_within cper (k ∷ ks) i (suc row) = place_in_within cper ks i.1 row
+
+pub place_within : (cper : List ℕ) (row : ℕ) → PlaceWithin cper (place_of cper row)
+unfolding place_of
+place_within cper row = by (check_of cper)
   where
-    by_check : (long good : Bool) → Inside cper (cond long (nowhere TooLong) (cond good (place_in (kept_from cper 0 (count_of cper)) row) (nowhere NotCper)))
-    by_check true good = omega arith
-    by_check false true = place_in_lem cper 0 (count_of cper) row
-    by_check false false = omega arith
+    by : (check : Result (Unit {0}) Refusal) → PlaceWithin cper (after check Err (place_in (kept_of cper) row))
+    by (Ok _) = place_in_within cper (kept_of cper) (kept_within cper) row
+    by (Err _) = tt

@@ -1,14 +1,13 @@
 -- The kept sections of a CPER (document 01, 'CPER'): as a list, as a table of rows, and one by its row number.
-use Rattle.std.specs.Prelude.{ℕ, zero, suc, ◌+◌, ◌*◌, ◌/◌, List, [], ◌∷◌, ◌++◌, Bool, cond, ◌&&◌, leb, length, take, drop}
+use Rattle.std.specs.Prelude.{ℕ, zero, suc, ◌+◌, ◌*◌, ◌/◌, List, [], ◌∷◌, ◌++◌, Bool, cond, ◌&&◌, leb, length, take, drop, slice_get, Option, Some, None, Result, Ok, Err}
 use Rattle.le.specs.Le.{le}
 use Rattle.cper_header.specs.Record.{header_size, count_of}
 use Rattle.cper_descr.specs.Descriptor.{descriptor_size, offset_at, length_at}
 use Rattle.cper_sections.specs.Answers.{checked}
-use Rattle.cper_sections.specs.declared.Answer.{Answer}
-use Rattle.cper_sections.specs.declared.Answer.TheVariants.{Done, SectionsFull, None}
+use Rattle.cper_sections.specs.declared.Place.{Place}
+use Rattle.cper_sections.specs.declared.Refusal.{Refusal}
+use Rattle.cper_sections.specs.declared.Refusal.TheVariants.{SectionsFull, NoSection}
 use Rattle.cper_sections.specs.declared.kept.Section.{Section}
-use Rattle.cper_sections.specs.declared.Listed.{Listed}
-use Rattle.cper_sections.specs.declared.Located.{Located}
 
 -- ---- which sections are kept
 
@@ -51,43 +50,33 @@ unfoldable pub section_rows : List Section → List ℕ
 section_rows [] = []
 section_rows (k ∷ ks) = row_of k ++ section_rows ks
 
--- what is told of some rows
-abbrev pub listed : Answer → ℕ → Listed
-listed answer rows = record { answer = answer; rows = rows }
-
--- as many rows as the table has room for; the table, and what is told of it
-unfoldable pub listed_in : List ℕ → List Section → List ℕ × Listed
+-- as many rows as the table has room for; the table, and how many rows it has
+unfoldable pub listed_in : List ℕ → List Section → List ℕ × Result ℕ Refusal
 listed_in table ks =
     let room = length table / section_numbers in
     let written = take room ks in
-    (section_rows written ++ drop (section_numbers * length written) table, listed (cond (leb (length ks) room) Done SectionsFull) (length written))
+    let rows = length written in
+    (section_rows written ++ drop (section_numbers * rows) table, cond (leb (length ks) room) (Ok rows) (Err (SectionsFull rows)))
 
--- a refusal leaves the table as it is
-abbrev pub unlisted : List ℕ → Answer → List ℕ × Listed
-unlisted table answer = (table, listed answer 0)
-
--- the table after the call, and what is told
-unfoldable pub sections_of : List ℕ → List ℕ → List ℕ × Listed
-sections_of cper table = checked cper (unlisted table) (listed_in table (kept_of cper))
+-- the table after the call, which another refusal leaves as it is, and what is told
+unfoldable pub sections_of : List ℕ → List ℕ → List ℕ × Result ℕ Refusal
+sections_of cper table = checked cper (λ refusal. (table, Err refusal)) (listed_in table (kept_of cper))
 
 -- ---- one section
 
--- what is told of a body; with a refusal, nothing at 0
-abbrev pub located : Answer → ℕ → ℕ → Located
-located answer offset size = record { answer = answer; offset = offset; length = size }
+-- where the body of a section is, if there is the section
+abbrev pub place_at : Option Section → Result Place Refusal
+place_at None = Err NoSection
+place_at (Some k) = Ok (record { offset = k.offset; length = k.size })
 
-abbrev pub nowhere : Answer → Located
-nowhere answer = located answer 0 0
+-- where the section with a row number has its body
+unfoldable pub place_in : List Section → ℕ → Result Place Refusal
+place_in ks row = place_at (slice_get ks row)
 
--- where the section with a row number is
-unfoldable pub place_in : List Section → ℕ → Located
-place_in [] row = nowhere None
-place_in (k ∷ ks) zero = located Done k.offset k.size
-place_in (k ∷ ks) (suc row) = place_in ks row
+unfoldable pub place_of : List ℕ → ℕ → Result Place Refusal
+place_of cper row = checked cper Err (place_in (kept_of cper) row)
 
-unfoldable pub place_of : List ℕ → ℕ → Located
-place_of cper row = checked cper nowhere (place_in (kept_of cper) row)
-
--- the part of the input at a place
-abbrev pub part_at : List ℕ → Located → List ℕ
-part_at cper place = take place.length (drop place.offset cper)
+-- the part of the input at a place; none with a refusal
+abbrev pub part_at : List ℕ → Result Place Refusal → List ℕ
+part_at cper (Ok place) = take place.length (drop place.offset cper)
+part_at cper (Err _) = []

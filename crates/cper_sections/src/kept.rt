@@ -1,39 +1,36 @@
 // The sections that the descriptors of a CPER tell, and which of them are kept.
-ghost use Rattle.std.specs.Prelude.{◌≡◌, ◌≤◌, ◌<◌};
-ghost use Rattle.cper_sections.specs.Sections.{descriptor_at, told, keeps};
-ghost use Rattle.cper_sections.specs.Steps.{Whole, NextKept};
+ghost use Rattle.std.specs.Prelude.{◌≡◌, ◌+◌, ◌≤◌, ◌<◌, List, length};
+ghost use Rattle.std.specs.Iterator.{YieldsFirst, item_count};
+ghost use Rattle.cper_header.specs.Record.{header_size};
+ghost use Rattle.cper_descr.specs.Descriptor.{descriptor_size};
+ghost use Rattle.cper_sections.specs.declared.kept.Section.{Section};
+ghost use Rattle.cper_sections.specs.Sections.{descriptor_at, told, keeps, kept_of};
+ghost use Rattle.cper_sections.specs.Steps.{AllWithin, kept_in, NextKept};
 
 use le::LittleEndian;
+use std::marker::Model;
 
 // Where the high half of a number of eight bytes starts.
 const HIGH: u64 = 4294967296;
 
 // A section: its descriptor's index, its body's offset and length.
-#[derive(Clone, Copy)]
+#[derive(Clone, Copy, Debug, PartialEq, Eq)]
 pub struct Section {
-    pub index: usize,
+    pub index: u16,
     pub offset: u32,
     pub size: u32,
 }
 
-// The next kept section of a loop over them.
-#[derive(Clone, Copy)]
-pub enum Next {
-    Kept(Section),
-    None,
-}
-
 // Where the descriptor with an index stands; past the last one, where the bodies of a normal form start.
-pub fn descriptor_at(index: usize) -> usize
-    requires { index < 65536 }
+pub fn descriptor_at(index: u16) -> usize
     ensures { result ≡ descriptor_at index }
 {
-    cper_header::RECORD_HEADER_SIZE + cper_descr::SECTION_DESCRIPTOR_SIZE * index
+    cper_header::RECORD_HEADER_SIZE + cper_descr::SECTION_DESCRIPTOR_SIZE * (index as usize)
 }
 
 // The section that the descriptor with an index tells. Its body's offset and length are read as one number, which is one load.
-fn section_told(cper: &[u8], index: usize) -> Section
-    requires { Whole cper.now index }
+fn section_told(cper: &[u8], index: u16) -> Section
+    requires { descriptor_at index + descriptor_size ≤ length cper.now }
     ensures { result ≡ told cper.now index }
 {
     let both = u64::read_le(cper, descriptor_at(index) + cper_descr::SECTION_OFFSET_AT);
@@ -45,8 +42,7 @@ fn section_told(cper: &[u8], index: usize) -> Section
 }
 
 // Whether the section with an index is kept.
-fn is_kept(cper: &[u8], index: usize) -> bool
-    requires { index < 65536 }
+fn is_kept(cper: &[u8], index: u16) -> bool
     ensures { result ≡ keeps cper.now index }
 {
     if cper.len() < descriptor_at(index) + cper_descr::SECTION_DESCRIPTOR_SIZE {
@@ -56,17 +52,58 @@ fn is_kept(cper: &[u8], index: usize) -> bool
     (section.offset as usize) + (section.size as usize) <= cper.len()
 }
 
-// The first kept section from an index on, if one is left.
-pub fn next_kept(cper: &[u8], from: usize, count: usize) -> Next
-    requires { (from ≤ count) × (count < 65536) }
+// The first kept section from an index on, below a count, if there is one.
+fn next_kept(cper: &[u8], from: u16, count: u16) -> Option<Section>
     ensures { NextKept cper.now from count result }
 {
-    let mut index = from;
-    while index < count {
+    for index in from..count {
         if is_kept(cper, index) {
-            return Next::Kept(section_told(cper, index));
+            return Some(section_told(cper, index));
         }
-        index = index + 1;
     }
-    Next::None
+    None
+}
+
+// The kept sections of a CPER that are still to come, in the order of their descriptors.
+#[derive(Drop)]
+pub struct Kept<'a> {
+    cper: &'a [u8],
+    next: u16,
+    count: u16,
+}
+
+impl<'a> Model for Kept<'a> {
+    ghost Value = { List Section };
+
+    ghost view = { λ s. kept_in s.cper.now s.next s.count };
+}
+
+impl<'a> Kept<'a> {
+    // All of them.
+    pub fn new(cper: &'a [u8]) -> Kept<'a>
+        requires { header_size ≤ length cper.now }
+        ensures all { result ≡ kept_of cper.now }
+        ensures few { length result < 65536 }
+        ensures within { AllWithin cper.now result }
+    {
+        Kept {
+            cper,
+            next: 0,
+            count: cper_header::section_count(cper),
+        }
+    }
+}
+
+impl<'a> Iterator for Kept<'a> {
+    type Item = Section;
+
+    ghost next_gives = { YieldsFirst (λ s. s) };
+
+    ghost remaining = { item_count (λ s. s) };
+
+    fn next(&mut self) -> Option<Section> {
+        let section = next_kept(self.cper, self.next, self.count)?;
+        self.next = section.index + 1;
+        Some(section)
+    }
 }

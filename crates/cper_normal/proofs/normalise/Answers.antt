@@ -1,24 +1,20 @@
 -- `normalise` writes the normal form, or refuses.
--- By the answer of the checks. Assumes nothing.
-use mathlib.Core.Path.{◌∙◌}
-use Rattle.cper_sections.proofs.Checked.{passes, passed, no_cper}
-use Rattle.cper_normal.specs.Normal.{unwritten, packed_in, normalised_of}
+-- By what the checks tell. Assumes nothing.
+use mathlib.Core.Path.{sym, ◌∙◌}
+use Rattle.std.proofs.lemmas.Result.{err_from_is_err_and}
+use Rattle.cper_sections.proofs.Checked.{passes}
+use Rattle.cper_normal.specs.Normal.{normalised_of}
 use Rattle.cper_normal.proofs.normalise.Goals as goal
 
+pub returns-in_err-check : goal.returns-in_err-check
+unfolding normalised_of
+returns-in_err-check c =
+    let refused = err_from_is_err_and c.from_residual.result c.from_residual.ensures.1 in
+    rw (refused.1, refused.2, sym c.check.ensures ∙ c.in_err-check.was)
+
 pub pack_kept-requires : goal.pack_kept-requires
-pack_kept-requires c =
-    let p = passes c.args.cper.now c.check-answer.result c.check-answer.ensures c.in-Done.is in
-    (p.header, p.short)
+pack_kept-requires c = (passes c.args.cper.now (sym c.check.ensures ∙ c.in_ok-check.was)).header
 
-pub returns-in-Done : goal.returns-in-Done
+pub returns : goal.returns
 unfolding normalised_of
-returns-in-Done c =
-    let a = c.args in
-    c.pack_kept.ensures
-    ∙ passed a.cper.now (unwritten a.out.now) (packed_in a.cper.now a.out.now) c.check-answer.result c.check-answer.ensures c.in-Done.is
-
-pub returns-in_default : goal.returns-in_default
-unfolding normalised_of
-returns-in_default c =
-    let a = c.args in
-    no_cper a.cper.now (unwritten a.out.now) (packed_in a.cper.now a.out.now) c.check-answer.result c.check-answer.ensures c.in_default.not-Done
+returns c = rw (sym c.check.ensures ∙ c.in_ok-check.was) c.pack_kept.ensures

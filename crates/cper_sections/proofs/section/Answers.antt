@@ -1,12 +1,12 @@
 -- `section` returns the part of the input that `section_at` tells.
 -- The place lies in the input. Assumes nothing.
-use Prim.Native.Nat.{◌+◌, ◌≤◌}
+use mathlib.Core.Path.{subst, sym, ◌∙◌}
 use native.Mathlib.Omega.{arith}
-use lib.ListN.{length}
-use Rattle.cper_sections.proofs.KeptFrom.{place_within}
+use Rattle.cper_sections.proofs.KeptFrom.{PlaceWithin, place_within}
 use Rattle.cper_sections.proofs.section.Goals as goal
 
-pub slice_bounds-result-end : goal.slice_bounds-result-end
-slice_bounds-result-end c =
-    let inside : c.section_at-place.result.offset + c.section_at-place.result.length ≤ length c.args.cper.now = rw c.section_at-place.ensures (place_within c.args.cper.now c.args.row) in
+pub slice_bounds-result-end-2 : goal.slice_bounds-result-end-2
+slice_bounds-result-end-2 c =
+    let a = c.args in
+    let inside = subst (PlaceWithin a.cper.now) (sym c.section_at.ensures ∙ c.in-Ok.is) (place_within a.cper.now a.row) in
     omega arith

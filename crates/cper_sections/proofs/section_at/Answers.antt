@@ -1,23 +1,20 @@
 -- `section_at` tells where one kept section's body is, or refuses.
--- By the answer of the checks. Assumes nothing.
-use mathlib.Core.Path.{◌∙◌}
-use Rattle.cper_sections.specs.Sections.{kept_of, nowhere, place_in, place_of}
-use Rattle.cper_sections.proofs.Checked.{passes, passed, no_cper}
+-- By what the checks tell. Assumes nothing.
+use mathlib.Core.Path.{sym, ◌∙◌}
+use Rattle.std.proofs.lemmas.Result.{err_from_is_err_and}
+use Rattle.cper_sections.specs.Sections.{place_of}
+use Rattle.cper_sections.proofs.Checked.{passes}
 use Rattle.cper_sections.proofs.section_at.Goals as goal
 
+pub returns-in_err-check : goal.returns-in_err-check
+unfolding place_of
+returns-in_err-check c =
+    let refused = err_from_is_err_and c.from_residual.result c.from_residual.ensures.1 in
+    rw (refused.1, refused.2, sym c.check.ensures ∙ c.in_err-check.was)
+
 pub find_kept-requires : goal.find_kept-requires
-find_kept-requires c =
-    (passes c.args.cper.now c.check-answer.result c.check-answer.ensures c.in-Done.is).header
+find_kept-requires c = (passes c.args.cper.now (sym c.check.ensures ∙ c.in_ok-check.was)).header
 
-pub returns-in-Done : goal.returns-in-Done
+pub returns : goal.returns
 unfolding place_of
-returns-in-Done c =
-    let a = c.args in
-    c.find_kept.ensures
-    ∙ passed a.cper.now nowhere (place_in (kept_of a.cper.now) a.row) c.check-answer.result c.check-answer.ensures c.in-Done.is
-
-pub returns-in_default : goal.returns-in_default
-unfolding place_of
-returns-in_default c =
-    let a = c.args in
-    no_cper a.cper.now nowhere (place_in (kept_of a.cper.now) a.row) c.check-answer.result c.check-answer.ensures c.in_default.not-Done
+returns c = rw (sym c.check.ensures ∙ c.in_ok-check.was) c.find_kept.ensures
