@@ -72,9 +72,7 @@ fn put_name(out: &mut [u8], at: usize, word: u32) -> usize
 {
     let version = Version::from_u32(word);
     let name = names::name_of(version.record_type as u32);
-    let bytes = name.bytes;
-    let len = name.len;
-    put_text(out, at, &bytes[..len])
+    put_text(out, at, name.as_bytes())
 }
 
 // A version word, and the space after it.
