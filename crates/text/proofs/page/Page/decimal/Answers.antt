@@ -1,4 +1,4 @@
--- `put_decimal` puts the digits that `io::decimal` writes.
+-- `decimal` puts the digits that `io::decimal` writes.
 -- They are those of the definition, at most 20. Assumes nothing.
 use mathlib.Core.Path.{ap, ◌∙◌}
 use native.Mathlib.Omega.{arith}
@@ -6,10 +6,10 @@ use lib.ListN.{length}
 use Rattle.text.specs.Steps.{most_digits}
 use Rattle.text.proofs.Numbers.{decimal_is, decimal_le}
 use Rattle.text.proofs.Pieces.{fewer}
-use Rattle.text.proofs.put.put_decimal.Goals as goal
+use Rattle.text.proofs.page.Page.decimal.Goals as goal
 
-pub put_text-requires : goal.put_text-requires
-put_text-requires c =
+pub text-requires : goal.text-requires
+text-requires c =
     let io = c.decimal-count.ensures in
     let is = io.digits ∙ decimal_is c.args.n c.decimal-count.result io.len in
     omega (arith, ap length is)
@@ -18,4 +18,4 @@ pub returns : goal.returns
 returns c =
     let io = c.decimal-count.ensures in
     let is = io.digits ∙ decimal_is c.args.n c.decimal-count.result io.len in
-    fewer most_digits (rw is at c.put_text.ensures) (decimal_le 19 c.args.n (omega (arith, c.ranges.n)))
+    fewer most_digits (rw is at c.text.ensures) (decimal_le 19 c.args.n (omega (arith, c.ranges.n)))
