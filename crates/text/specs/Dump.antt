@@ -1,5 +1,5 @@
 -- What the dump program prints (document 01, 'Checked examples').
-use Rattle.std.specs.Prelude.{ℕ, ◌*◌, Bool, cond, List, [], ◌∷◌, ◌++◌, eqb, ltb, length, replicate}
+use Rattle.std.specs.Prelude.{ℕ, ◌*◌, Bool, cond, List, [], ◌∷◌, ◌++◌, eqb, ltb, length, replicate, decimal}
 use Rattle.std.specs.List.{flat_map}
 use Prim.Native.String.{String}
 use Rattle.header_judge.specs.Head.{no_die}
@@ -13,7 +13,7 @@ use Rattle.region.specs.declared.Listing.{Listing}
 use Rattle.region.specs.Listing.{Shown, number_of, refusal, tries_listing, listed}
 use Rattle.names.specs.Ascii.{ascii}
 use Rattle.names.specs.Names.{text_of}
-use Rattle.text.specs.Number.{decimal, hex}
+use Rattle.text.specs.Number.{hex}
 
 -- ---- the lines
 

@@ -45,6 +45,7 @@ pub const MOST_TEXT: usize = MOST_HEADING + MOST_ROWS * MOST_LINE + MOST_LAST;
 pub const MOST_CPER_TEXT: usize = MOST_HEADING + MOST_CPER_ROWS * MOST_LINE + MOST_LAST;
 
 // The listing, or the refusal of a region that is too long; its rows fit the table.
+#[tactic(auto, unfolding(crate::specs::Dump::listing))]
 fn listing_of(region: &[u8], spans: &mut [u32]) -> Listing
     ensures result_after { (spans.new, result) ≡ listing region.now spans.old }
     ensures width_in_bounds { result.rows * width ≤ length spans.old }
@@ -58,10 +59,8 @@ fn listing_of(region: &[u8], spans: &mut [u32]) -> Listing
 // The whole text of a listing and the table with its rows, at the start of `out`; gives its length.
 fn put_listing(out: &mut [u8], spans: &[u32], listing: Listing) -> usize
     requires { (listing.rows * width ≤ length spans.now) × (most_text listing.rows ≤ length out.old) }
-    ensures {
-        let text = text_of_listing (spans.now, listing) in
-        (result ≡ length text) × (out.new ≡ text ++ drop result out.old)
-    }
+    ensures { let text = text_of_listing (spans.now, listing) in
+        (result ≡ length text) × (out.new ≡ text ++ drop result out.old) }
 {
     let mut page = Page { out, end: 0 };
     page.text(b"level offset held declared header version socket die name\n");
@@ -83,8 +82,13 @@ pub fn dump(region: &[u8], out: &mut [u8; MOST_TEXT]) -> usize
 pub fn dump_cper(cper: &[u8], out: &mut [u8; MOST_CPER_TEXT]) -> usize
     ensures { (result ≡ length (cper_dump_text cper.now)) × (out.new ≡ cper_dump_text cper.now ++ drop result out.old) }
 {
-    let record_id = RECORD_ID_CRASHLOG;
     let mut spans = [0u32; CPER_NUMBERS];
-    let listing = cper_regions::list_cper(cper, &record_id, &NO_RULES, MOST_CPER_TRIES, &mut spans);
+    let listing = cper_regions::list_cper(
+        cper,
+        &RECORD_ID_CRASHLOG,
+        &NO_RULES,
+        MOST_CPER_TRIES,
+        &mut spans,
+    );
     put_listing(out, &spans, listing)
 }

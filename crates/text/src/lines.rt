@@ -1,10 +1,9 @@
 // The lines of a dump, put into a page.
-ghost use Rattle.std.specs.Prelude.{◌++◌, ◌+◌, ◌*◌, ◌≤◌, length};
+ghost use Rattle.std.specs.Prelude.{◌++◌, ◌+◌, ◌*◌, ◌≤◌, length, decimal};
 ghost use Rattle.std.specs.List.{flat_map};
 ghost use Rattle.header_judge.specs.Version.{record_type};
 ghost use Rattle.region_rows.specs.Rows.{width, spans_in};
 ghost use Rattle.names.specs.Names.{text_of};
-ghost use Rattle.text.specs.Number.{decimal};
 ghost use Rattle.text.specs.Dump.{column, version_column, die_column, row_line, lines, yes_no, last_line};
 ghost use Rattle.text.specs.Steps.{Puts, most_digits, most_column, most_line, most_last};
 

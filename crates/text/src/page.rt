@@ -1,12 +1,10 @@
 // A lent buffer that text is put into, piece after piece.
-ghost use Rattle.std.specs.Prelude.{◌+◌, ◌≤◌, length};
+ghost use Rattle.std.specs.Prelude.{◌+◌, ◌≤◌, length, decimal};
 ghost use Rattle.text.specs.Dump.{column};
-ghost use Rattle.text.specs.Number.{decimal, hex};
+ghost use Rattle.text.specs.Number.{hex};
 ghost use Rattle.text.specs.Steps.{Puts, most_digits, most_column};
 
-// The digits of a number of 64 bits in decimal, and of one of 32 bits in hexadecimal.
-const MOST_DIGITS: usize = 20;
-
+// The digits of a number of 32 bits in hexadecimal.
 const HEX_DIGITS: usize = 8;
 
 // The buffer, and where the text in it ends.
@@ -31,9 +29,7 @@ impl Page<'_> {
         requires { self.old.end + length (decimal n) ≤ length self.old.out.now }
         ensures { Puts self.old (decimal n) most_digits self.new }
     {
-        let mut digits = [0u8; MOST_DIGITS];
-        let count = io::decimal(n, &mut digits);
-        self.text(&digits[..count]);
+        self.text(itoa::Buffer::new().format(n).as_bytes());
     }
 
     // A number of 32 bits in decimal, and the space after it.
