@@ -1,7 +1,7 @@
 // Prints the listing of the region on standard input: a heading, a line for each row, and the counts.
 #![tactic(auto)]
 
-use input::{Input, read_input};
+use input::read_input;
 use std::io;
 
 // Prints the text of a region.
@@ -14,9 +14,8 @@ fn print_dump(rt: &impl Print, region: &[u8]) -> io::Result<()> {
 // The buffer has one byte more than the longest region.
 fn main(rt: HostRuntime) -> io::Result<()> {
     let mut buffer = [0u8; 65536];
-    let input = read_input(&rt, &mut buffer);
-    match input {
-        Input::Bytes(count) => print_dump(&rt, &buffer[..count]),
-        Input::Failed => input::tell_failed(&rt, "dump"),
+    match read_input(&rt, &mut buffer) {
+        Ok(count) => print_dump(&rt, &buffer[..count]),
+        Err(_) => input::tell_failed(&rt, "dump"),
     }
 }

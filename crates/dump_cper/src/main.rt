@@ -2,7 +2,7 @@
 #![tactic(auto)]
 
 use answers::MOST_BYTES;
-use input::{Input, read_input};
+use input::read_input;
 use std::io;
 
 // One byte more than the longest CPER.
@@ -17,10 +17,9 @@ fn print_dump(rt: &impl Print, cper: &[u8]) -> io::Result<()> {
 
 // Reads a CPER into the buffer and prints its text. It is apart from `main` so that its proof is of a buffer of any length.
 fn dump_input(rt: &(impl io::Input + Print + Eprint), buffer: &mut [u8]) -> io::Result<()> {
-    let input = read_input(rt, buffer);
-    match input {
-        Input::Bytes(count) => print_dump(rt, &buffer[..count]),
-        Input::Failed => input::tell_failed(rt, "dump_cper"),
+    match read_input(rt, buffer) {
+        Ok(count) => print_dump(rt, &buffer[..count]),
+        Err(_) => input::tell_failed(rt, "dump_cper"),
     }
 }
 

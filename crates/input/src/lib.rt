@@ -1,50 +1,25 @@
 // Standard input, read into a lent buffer.
 #![tactic(auto)]
 
-ghost use Rattle.std.specs.Prelude.{length};
-ghost use Rattle.input.specs.Input.{Within};
+ghost use Rattle.std.specs.Prelude.{◌≤◌, length, IfOk};
 
 use std::io;
 use std::io::Read;
 
-// How many bytes were read, or that a read failed.
-#[derive(Clone, Copy)]
-pub enum Input {
-    Bytes(usize),
-    Failed,
-}
-
-// Reads once: no bytes at the end of the input.
-fn read_some(reader: &mut impl Read, free: &mut [u8]) -> Input
-    ensures { Within (length free.old) result }
-{
-    match reader.read(free) {
-        Ok(count) => Input::Bytes(count),
-        Err(_) => Input::Failed,
-    }
-}
-
-// Reads until the input ends or the buffer is full.
-pub fn read_input(rt: &impl io::Input, buffer: &mut [u8]) -> Input
-    ensures { Within (length buffer.old) result }
+// Reads until the input ends or the buffer is full, and tells how many bytes came.
+pub fn read_input(rt: &impl io::Input, buffer: &mut [u8]) -> io::Result<usize>
+    ensures { IfOk result (λ count. count ≤ length buffer.old) }
 {
     let mut reader = rt.reader();
     let mut count = 0;
     while count < buffer.len() {
-        let input = read_some(&mut reader, &mut buffer[count..]);
-        match input {
-            Input::Failed => {
-                return Input::Failed;
-            }
-            Input::Bytes(more) => {
-                if more == 0 {
-                    return Input::Bytes(count);
-                }
-                count = count + more;
-            }
+        let more = reader.read(&mut buffer[count..])?;
+        if more == 0 {
+            break;
         }
+        count += more;
     }
-    Input::Bytes(count)
+    Ok(count)
 }
 
 // Says on standard error that a program's input can't be read.

@@ -1,7 +1,6 @@
 -- The record types and their names (`record_type_as_str`, and UNKNOWN for every other number).
-use Rattle.std.specs.Prelude.{ℕ, ◌-◌, cond, List, [], ◌∷◌, ◌++◌, eqb, leb, length, get_or, drop, replicate}
+use Rattle.std.specs.Prelude.{ℕ, cond, List, [], ◌∷◌, ◌++◌, eqb, leb, length, get_or, drop}
 use Rattle.names.specs.Ascii.{ascii}
-use Rattle.names.specs.declared.Name.{Name}
 
 -- record types, each with its name
 abbrev pub Table : Type 0
@@ -44,14 +43,6 @@ lookup t ((code, name) ∷ rest) = cond (eqb t code) name (lookup t rest)
 -- the name of a record type
 unfoldable pub text_of : ℕ → List ℕ
 text_of t = lookup t named
-
--- a name with zeros after it up to 16 bytes
-unfoldable pub padded : List ℕ → List ℕ
-padded name = name ++ replicate (16 - length name) 0
-
--- the name of a record type, padded, and its length
-abbrev pub name_of : ℕ → Name
-name_of t = record { bytes = padded (text_of t); len = length (text_of t) }
 
 -- a name at the start of the output, where it fits, and its length
 unfoldable pub name_out : List ℕ → List ℕ → List ℕ × ℕ

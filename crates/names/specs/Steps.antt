@@ -1,8 +1,7 @@
 -- What the inner contracts cite.
 use Rattle.std.specs.Prelude.{ℕ, List}
-use Rattle.names.specs.Names.{padded}
-use Rattle.names.specs.declared.table.Entry.{Entry}
+use Rattle.std.specs.Borrow.{Bor}
 
--- an entry as the library's table holds it: its name padded
-abbrev pub held : ℕ × List ℕ → Entry
-held (code, name) = record { 0 = code; 1 = padded name }
+-- an entry of the library's table as one of the definition's
+abbrev pub spelled : ℕ × Bor (List ℕ) → ℕ × List ℕ
+spelled (code, name) = (code, name.now)

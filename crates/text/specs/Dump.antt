@@ -1,5 +1,6 @@
 -- What the dump program prints (document 01, 'Checked examples').
-use Rattle.std.specs.Prelude.{ℕ, ◌*◌, Bool, cond, List, [], ◌∷◌, ◌++◌, eqb, ltb, length, replicate}
+use Rattle.std.specs.Prelude.{ℕ, ◌*◌, Bool, cond, List, [], ◌∷◌, ◌++◌, eqb, ltb, length, replicate, decimal}
+use Rattle.std.specs.List.{flat_map}
 use Prim.Native.String.{String}
 use Rattle.header_judge.specs.Head.{no_die}
 use Rattle.header_judge.specs.Version.{record_type}
@@ -12,12 +13,7 @@ use Rattle.region.specs.declared.Listing.{Listing}
 use Rattle.region.specs.Listing.{Shown, number_of, refusal, tries_listing, listed}
 use Rattle.names.specs.Ascii.{ascii}
 use Rattle.names.specs.Names.{text_of}
-use Rattle.text.specs.Number.{decimal, hex}
-
--- the texts of some things, one after the other
-unfoldable pub each : {A : Type 0} → (A → List ℕ) → List A → List ℕ
-each text [] = []
-each text (x ∷ xs) = text x ++ each text xs
+use Rattle.text.specs.Number.{hex}
 
 -- ---- the lines
 
@@ -39,13 +35,13 @@ die_column die = cond (eqb die no_die) (ascii "- ") (column die)
 -- a row's line
 unfoldable pub row_line : Span → List ℕ
 row_line r =
-    each column (r.level ∷ r.offset ∷ r.held ∷ r.declared ∷ r.size ∷ [])
+    flat_map column (r.level ∷ r.offset ∷ r.held ∷ r.declared ∷ r.size ∷ [])
     ++ version_column r.word ++ column r.socket ++ die_column r.die
     ++ text_of (record_type r.word) ++ ascii "\n"
 
 -- the lines of some rows
 abbrev pub lines : List Span → List ℕ
-lines rs = each row_line rs
+lines rs = flat_map row_line rs
 
 abbrev pub yes_no : Bool → List ℕ
 yes_no b = cond b (ascii "yes") (ascii "no")

@@ -1,12 +1,15 @@
--- What the inner functions give: a text put into a buffer.
+-- What the inner functions give: a text put into a page.
 use Rattle.std.specs.Prelude.{ℕ, ◌+◌, ◌*◌, ◌≤◌, ◌≡◌, List, length}
 use Rattle.std.proofs.lemmas.List.Edits.{sets}
+use Rattle.text.specs.declared.page.Page.{Page}
 
--- the buffer has the text from `at` on and is else as it was; the text ends at `next`, and has at most so many bytes
-pub record Puts (before : List ℕ) (at : ℕ) (text : List ℕ) (most : ℕ) (after : List ℕ) (next : ℕ) : Type 0 where
-  pub bytes : after ≡ sets before at text
-  pub ends : next ≡ at + length text
-  pub few : next ≤ at + most
+-- the same buffer, with the text put after what was there, and else as it was; the text has at most so many bytes
+pub record Puts (before : Page) (text : List ℕ) (most : ℕ) (after : Page) : Type 0 where
+  pub bytes : after.out.now ≡ sets before.out.now before.end text
+  pub ends : after.end ≡ before.end + length text
+  pub few : after.end ≤ before.end + most
+  pub length_kept : length after.out.now ≡ length before.out.now
+  pub same_reference : before.out.ghost_name ≡ after.out.ghost_name
 
 -- ---- the most bytes
 

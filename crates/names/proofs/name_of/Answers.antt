@@ -1,30 +1,37 @@
 -- `name_of` gives the name of a record type.
--- The padded name is found in the table, and its first zero is where the name ends. Assumes nothing.
-use Rattle.std.proofs.Common.{rules, tests, ◌≡◌, ℕ, ◌≤◌, cond, ltb, eqb, List, length, Some, None, unwrap_or, refl, ap, ◌∙◌, arith}
-use Rattle.std.proofs.lemmas.Bool.Decides.{nat_tests}
-use Rattle.std.specs.List.{position_or_len}
+-- The first entry of the type that `find` gives is the one that `lookup` comes to. Assumes nothing.
+use Rattle.std.proofs.Common.{rules, tests, ◌≡◌, ℕ, cond, eqb, Bool, true, false, List, [], ◌∷◌, map, Option, Some, None, refl, ap, ◌∙◌, Bor, arith}
+use Rattle.std.specs.List.{find}
 use Rattle.std.proofs.lemmas.Iterator.{YieldsList-from_slice}
-use Rattle.std.proofs.lemmas.Iterator.Search.{position_from_yields_List}
-use Rattle.names.specs.declared.Name.{Name}
-use Rattle.names.specs.Names.{name_of, text_of, padded}
-use Rattle.names.proofs.Laws.{name_ends, length-padded, length_text}
+use Rattle.std.proofs.lemmas.Iterator.Search.{find_from_yields_List}
+use Rattle.std.proofs.lemmas.Grind.{common_steps}
+use Rattle.names.specs.Names.{unknown, lookup, text_of}
+use Rattle.names.specs.Steps.{spelled}
 use Rattle.names.proofs.name_of.Goals as goal
 
-abbrev name : List ℕ → ℕ → Name
-name bytes len = record { bytes = bytes; len = len }
+abbrev Entry : Type 0
+Entry = ℕ × Bor (List ℕ)
 
--- where the search for a place within n ends, or n
-ended : (place n : ℕ) → place ≤ n → unwrap_or (cond (ltb place n) (Some place) None) n ≡ place
-ended place n h = grind (arith, nat_tests)
+-- the name in the entry that is found
+abbrev name_in : Option Entry → List ℕ
+name_in None = unknown
+name_in (Some entry) = entry.1.now
 
-ends : (t : ℕ) {bytes : List ℕ} {len : ℕ} → bytes ≡ padded (text_of t)
-    → len ≡ unwrap_or (cond (ltb (position_or_len (λ byte. eqb byte 0) bytes) (length bytes)) (Some (position_or_len (λ byte. eqb byte 0) bytes)) None) 16
-    → name bytes len ≡ name_of t
-ends t found first =
-    rw (first, found, name_ends t, length-padded t, ended (length (text_of t)) 16 (length_text t)) refl
+here_or : (b : Bool) (entry : Entry) (rest : Option Entry) → name_in (cond b (Some entry) rest) ≡ cond b entry.1.now (name_in rest)
+here_or true entry rest = refl
+here_or false entry rest = refl
+
+found : (t : ℕ) (table : List Entry) → name_in (find (λ entry. eqb t entry.0) table) ≡ lookup t (map spelled table)
+unfolding lookup
+found t [] = refl
+found t (entry ∷ rest) =
+    here_or (eqb t entry.0) entry (find (λ e. eqb t e.0) rest) ∙ ap (cond (eqb t entry.0) entry.1.now) (found t rest)
 
 pub returns : goal.returns
+unfolding text_of
 returns c =
-    let bytes = c.search-spelled.result in
-    let e = position_from_yields_List (λ byte. eqb byte 0) _ _ c.position.result c.position.ensures.ran (YieldsList-from_slice bytes cc) (λ x b q k. search (rules, tests)) in
-    ends c.args.record_type c.search-spelled.ensures (c.unwrap_or-len.ensures ∙ ap (λ o. unwrap_or o 16) e)
+    let t = c.args.record_type in
+    let table = c.entries.result.now in
+    let first = find_from_yields_List (λ entry. eqb t entry.0) _ _ c.find.result c.find.ensures.ran (YieldsList-from_slice table cc) (λ x b q k. search (rules, tests)) in
+    let name = found t table in
+    grind (arith, common_steps)

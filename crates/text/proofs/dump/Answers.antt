@@ -1,10 +1,8 @@
 -- `dump` puts the text of the listing at the start of the buffer, which has room for 512 rows.
 -- The listing and its table are the definition's. Assumes nothing.
-use native.Mathlib.Omega.{arith}
 use Rattle.text.specs.Dump.{empty_table, dump_text}
-use Rattle.text.proofs.Pieces.{listing_at_start}
 use Rattle.text.proofs.dump.Goals as goal
 
 pub returns : goal.returns
 unfolding dump_text empty_table
-returns c = listing_at_start c.listing_of-listing.ensures.result_after c.put_listing.ensures (omega arith)
+returns c = rw c.listing_of-listing.ensures.result_after at c.put_listing.ensures
