@@ -1,6 +1,6 @@
 // Headers decoded and encoded for C, with C's header by value: what is behind its pointers is the exported functions' affair.
 ghost use Rattle.std.specs.Prelude.{◌≡◌, ◌<◌};
-ghost use Rattle.header_judge.specs.Head.{lacking, size_of};
+ghost use Rattle.header_judge.specs.Head.{Complete};
 ghost use Rattle.header.specs.Header.{header_of};
 ghost use Rattle.c_header.specs.Header.{header_out, taken_of};
 ghost use Rattle.c_header.specs.Codec.{told_done, told_refused, encoded_in};
@@ -33,7 +33,7 @@ pub fn told_refused(refusal: header::Refusal) -> [u64; 5]
 
 // The header itself, of bytes that were judged to have one.
 pub fn header_at(bytes: &[u8], judged: Judged) -> CHeader
-    requires { lacking < size_of bytes.now judged.word judged.flags }
+    requires { Complete bytes.now judged.word judged.flags }
     ensures { result ≡ header_out (header_of bytes.now judged.word judged.flags) }
 {
     header_out(header::header_of(bytes, judged.word, judged.flags))

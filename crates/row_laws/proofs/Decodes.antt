@@ -9,6 +9,7 @@ use Rattle.std.proofs.Common.{Ok}
 use Rattle.std.specs.Prelude.{Ok}
 use Rattle.rules.specs.Rules.{valid_of}
 use Rattle.header_judge.specs.Version.{word_of}
+use Rattle.header_judge.specs.Head.{Head}
 use Rattle.header_judge.specs.declared.Summary.{Summary}
 use Rattle.header.specs.Header.{decoded_of}
 use Rattle.header.specs.declared.Decoded.{Decoded}
@@ -26,7 +27,7 @@ use Rattle.region_laws.specs.Clauses.{Every, rows_of}
 use Rattle.row_laws.specs.Decodes.{Decodes}
 use Rattle.row_laws.proofs.Stands.{EachFound, Stands, all_stand}
 
-same_summary : {s₁ s₂ : Summary} → Ok s₁ ≡ Ok s₂ → s₁ ≡ s₂
+same_summary : {s₁ s₂ : Summary} → ◌≡◌ {A = Head} (Ok s₁) (Ok s₂) → s₁ ≡ s₂
 same_summary e = cc
 
 -- a header that stands where a row says, decoded
