@@ -1,5 +1,5 @@
-// The receiver of a region that comes in pieces, for C (document 02, C-11): each function reads and writes the struct behind C's pointer, and
-// `receiver` has its state by value. The rules and the kept bytes are lent where they lie, so that a piece and the end cost no copy of them.
+// The receiver of a region that comes in pieces, for C: each function works on the struct behind C's pointer, whose rules and kept bytes stay
+// where they lie, and gives a refusal as its number, with zeros beside it.
 ghost use Rattle.std.specs.Prelude.{◌≡◌};
 ghost use Rattle.receiver.specs.Calls.{started_out, fed_out, finished_out};
 
@@ -9,9 +9,13 @@ use receiver::Receiver;
 pub fn crashlog_receiver_start(receiver: &mut Receiver, rules: &[u32]) -> u32
     ensures { (receiver.new, result) ≡ started_out receiver.old rules.now }
 {
-    let turned = receiver::start(*receiver, rules);
-    *receiver = turned.receiver;
-    turned.answer
+    match receiver::start(rules) {
+        Ok(started) => {
+            *receiver = started;
+            answers::DONE
+        }
+        Err(refusal) => u32::from(refusal),
+    }
 }
 
 // Takes a piece: the rows of the records that are all in with it go to the table's start, and `rows` tells how many they are.
@@ -23,17 +27,23 @@ pub fn crashlog_receiver_feed(
 ) -> u32
     ensures { (receiver.new, spans.new, rows.new, result) ≡ fed_out receiver.old piece.now spans.old }
 {
-    let state = receiver.state;
     let fed = receiver::feed(
-        state,
+        &mut receiver.state,
         &receiver.rules,
         piece,
         &mut receiver.kept,
         spans,
-        rows,
     );
-    receiver.state = fed.state;
-    fed.answer
+    match fed {
+        Ok(written) => {
+            *rows = written;
+            answers::DONE
+        }
+        Err(refusal) => {
+            *rows = 0;
+            u32::from(refusal)
+        }
+    }
 }
 
 // The end of the bytes: a last short row, if any, and what is told of the walk.
@@ -44,8 +54,15 @@ pub fn crashlog_receiver_finish(
 ) -> u32
     ensures { (receiver.new, spans.new, told.new, result) ≡ finished_out receiver.old spans.old }
 {
-    let state = receiver.state;
-    let fed = receiver::finish(state, &receiver.rules, &receiver.kept, spans, told);
-    receiver.state = fed.state;
-    fed.answer
+    let state = &mut receiver.state;
+    match receiver::finish(state, &receiver.rules, &receiver.kept, spans) {
+        Ok(listing) => {
+            *told = region::listing_told(listing);
+            region::number_of(listing.answer)
+        }
+        Err(refusal) => {
+            *told = [0; 5];
+            u32::from(refusal)
+        }
+    }
 }

@@ -1,5 +1,6 @@
 pub mod Arrived
 pub mod Records
+pub mod Fronts
 pub mod Pieces
 pub mod Kept
 pub mod Taken

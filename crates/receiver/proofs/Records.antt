@@ -2,23 +2,20 @@
 -- By the tests that make up a header. Assumes nothing.
 use mathlib.Core.Path.{◌≡◌, refl, sym, ap, ◌∙◌}
 use mathlib.Core.List.{List, [], ◌∷◌}
-use mathlib.Core.Bool.{Bool, true, false, cond, not, ◌&&◌}
+use mathlib.Core.Bool.{Bool, true, false, cond}
 use mathlib.Core.Logic.{⊎_elim}
-use Prim.Native.Nat.{ℕ, zero, suc, min, ◌≤◌, ◌<◌}
+use Prim.Native.Nat.{ℕ, zero, suc, ◌≤◌, ◌<◌}
 use native.Mathlib.Omega.{arith}
-use lib.Dec.{eqb, leb, ltb}
+use lib.Dec.{eqb, leb}
 use lib.ListN.{length}
-use borrow.Author.Tests.{lt-leb, le-leb, leb-true, leb-false, ne_eqb}
+use borrow.Author.Tests.{le-leb, leb-true, leb-false, ne_eqb}
 use Rattle.std.proofs.Common.{Ok, Err}
 use Rattle.basics.proofs.Orders.{le_or_lt}
-use Rattle.header_judge.specs.Head.{lacking, size_of, declared_of, is_box, summary_of, head_with, head_of, declared_by, Head}
+use Rattle.header_judge.specs.Head.{head_of, declared_by, Head}
 use Rattle.header_judge.specs.declared.Summary.{Summary}
-use Rattle.header_judge.proofs.Heads as heads
-use Rattle.header_judge.proofs.Heads.{head_record, declared_record}
 use Rattle.region_rows.specs.declared.Span.{Span}
 use Rattle.region_rows.specs.Rows.{top}
 use Rattle.region_try.specs.Tries.{Try, none, hit, span_of, try_of}
-use Rattle.region_try.specs.Whole.{keeps_whole}
 use Rattle.receiver.specs.Arrived.{arrived}
 use Rattle.receiver.specs.Steps.{bytes_in}
 use Rattle.receiver.proofs.Arrived.{top_try, top_whence, Complete, arrived_end, arrived_stop, arrived_lacks, arrived_hit}
@@ -67,73 +64,6 @@ lacks_bytes left s some no_bytes = by (leb s.declared left) refl no_bytes
     by : (b : Bool) → leb s.declared left ≡ b → cond b s.declared 0 ≡ 0 → left < s.declared
     by true e z = absurd (omega arith)
     by false e z = leb-false s.declared left e
-
--- ---- by what the code reads
-
-module _ (bs : List ℕ) (word flags left : ℕ) where
-  abbrev head : Head
-  head = head_with bs word flags
-
-  -- with fewer than it declares, none is; else they are those
-  pub none_short : left < declared_by head → 0 ≡ bytes_in left head
-  unfolding bytes_in
-  none_short h = rw (lt-leb (declared_by head) left h)
-
-  pub all_in_lem : declared_by head ≤ left → declared_by head ≡ bytes_in left head
-  unfolding bytes_in
-  all_in_lem h = rw (le-leb (declared_by head) left h)
-
-  -- what is all in has its header
-  module _ (some : 0 < bytes_in left head) where
-    fits : declared_by head ≤ left
-    fits = ⊎_elim (λ h. h) (λ h. let none : 0 ≡ bytes_in left head = none_short h in absurd (omega arith)) (le_or_lt (declared_by head) left)
-
-    declares : 0 < declared_by head
-    declares = rw (all_in_lem fits) some
-
-    pub header_there : lacking < size_of bs word flags
-    header_there = heads.header_there bs word flags declares
-
-    says : declared_of bs flags ≡ declared_by head
-    says = declared_record bs word flags (heads.word_there bs word flags declares) header_there
-
-    pub bytes_there : declared_of bs flags ≤ left
-    bytes_there = rw says fits
-
-    -- and is that record
-    pub read_record : head ≡ Ok (summary_of bs word flags)
-    read_record = head_record bs word flags (heads.word_there bs word flags declares) header_there
-
-    pub read_bytes : bytes_in left head ≡ declared_of bs flags
-    read_bytes = sym (says ∙ all_in_lem fits)
-
--- what a head says of its record, where bytes of it are all in
-pub record Read (bs : List ℕ) (word flags left declared : ℕ) (head : Head) : Type 0 where
-  pub is : head ≡ Ok (summary_of bs word flags)
-  pub declares : declared ≡ (summary_of bs word flags).declared
-  pub some : 0 < (summary_of bs word flags).declared
-  pub fits : (summary_of bs word flags).declared ≤ left
-
-pub read_in : (bs : List ℕ) (word flags left declared : ℕ) {head : Head} → head_with bs word flags ≡ head → declared ≡ bytes_in left (head_with bs word flags)
-    → (declared ≡ 0 → ⊥) → Read bs word flags left declared head
-read_in bs word flags left declared e d n =
-    let found : 0 < bytes_in left (head_with bs word flags) = rw (← d) (omega arith) in
-    let declares : declared ≡ (summary_of bs word flags).declared = d ∙ read_bytes bs word flags left found in
-    record {
-      is = sym e ∙ read_record bs word flags left found;
-      declares = declares;
-      some = rw (← declares) (omega arith);
-      fits = bytes_there bs word flags left found;
-    }
-
--- a record that is all in leaves the listing whole but where it is a Box whose header exceeds it
-pub keeps_whole_lem : (offset left : ℕ) (s : Summary) → s.declared ≤ left
-    → not (is_box s.word s.flags && ltb s.declared s.size) ≡ keeps_whole (hit (span_of 0 top offset left s))
-unfolding keeps_whole
-keeps_whole_lem offset left s h =
-    let held : min s.declared left ≡ s.declared = omega arith in
-    let all : leb s.declared s.declared ≡ true = le-leb s.declared s.declared (omega arith) in
-    rw (held, all)
 
 -- ---- the first record of some bytes
 

@@ -1,5 +1,5 @@
 -- The receiver's three calls (document 02, C-11) on the receiver as it is lent, refusals first.
-use Rattle.std.specs.Prelude.{ℕ, ◌+◌, ◌-◌, ◌*◌, ◌/◌, List, ◌++◌, Bool, cond, ◌&&◌, ◌||◌, eqb, leb, ltb, length, take, drop, replicate}
+use Rattle.std.specs.Prelude.{ℕ, ◌+◌, ◌-◌, ◌*◌, ◌/◌, List, ◌++◌, Bool, cond, ◌&&◌, ◌||◌, Result, Ok, Err, eqb, leb, ltb, length, take, drop, replicate}
 use Rattle.answers.specs.Numbers as answer
 use Rattle.answers.specs.Numbers.{most_bytes}
 use Rattle.rules.specs.Rules.{valid_of}
@@ -7,12 +7,15 @@ use Rattle.rules.specs.Columns.{columns_of, blocks_of, rules_in}
 use Rattle.header_judge.specs.Version.{bit}
 use Rattle.region_rows.specs.Rows.{capacity, laid}
 use Rattle.region_try.specs.Tries.{rows_found}
-use Rattle.region.specs.Listing.{number_of, listing_told}
+use Rattle.region.specs.Listing as listing
+use Rattle.region.specs.Listing.{listing_told}
+use Rattle.region.specs.declared.Listing.{Listing}
 use Rattle.receiver.specs.Waiting.{Waiting, joined, settled, walked_on, last_tries, last_listing}
 use Rattle.receiver.specs.declared.State.{State}
 use Rattle.receiver.specs.declared.Receiver.{Receiver}
-use Rattle.receiver.specs.declared.Fed.{Fed}
-use Rattle.receiver.specs.declared.Turned.{Turned}
+use Rattle.receiver.specs.declared.refusal.Refusal.{Refusal}
+use Rattle.receiver.specs.declared.refusal.Refusal.TheVariants.{BadRules, BadPiece, TooLong, NotReceiving}
+use Rattle.receiver.specs.Refusals.{number_of}
 
 -- ---- a receiver
 
@@ -82,16 +85,16 @@ started rules =
       kept = replicate most_kept 0;
     }
 
-unfoldable pub start_out : Receiver → List ℕ → Turned
-start_out r rules =
-    cond (valid_of rules) (record { receiver = started rules; answer = answer.done })
-    (record { receiver = r; answer = answer.bad_rules })
+unfoldable pub start_out : List ℕ → Result Receiver Refusal
+start_out rules = cond (valid_of rules) (Ok (started rules)) (Err BadRules)
 
--- the receiver and the answer
+-- the receiver and the answer's number, by what it was before
+abbrev pub start_told : Receiver → Result Receiver Refusal → Receiver × ℕ
+start_told before (Ok r) = (r, answer.done)
+start_told before (Err refusal) = (before, number_of refusal)
+
 abbrev pub started_out : Receiver → List ℕ → Receiver × ℕ
-started_out r rules =
-    let out = start_out r rules in
-    (out.receiver, out.answer)
+started_out before rules = start_told before (start_out rules)
 
 -- ---- feed
 
@@ -101,16 +104,13 @@ most_piece = 64
 abbrev pub least_room : ℕ
 least_room = 600
 
--- the kept bytes, the table, its rows, and the state with the answer
+-- the kept bytes, the table, the state, and how many rows the table has
 abbrev pub FeedOut : Type 0
-FeedOut = List ℕ × List ℕ × ℕ × Fed
+FeedOut = List ℕ × List ℕ × State × Result ℕ Refusal
 
-abbrev pub fed_as : State → ℕ → Fed
-fed_as s number = record { state = s; answer = number }
-
--- a refusal: no rows, and nothing changes but by a 1, which closes the receiver
-abbrev pub feed_refused : ℕ → State → List ℕ → List ℕ → FeedOut
-feed_refused number s kept t = (kept, t, 0, fed_as s number)
+-- a refusal changes nothing, but that a piece too long shuts the state
+abbrev pub feed_refused : Refusal → State → List ℕ → List ℕ → FeedOut
+feed_refused refusal s kept t = (kept, t, s, Err refusal)
 
 -- the state that waits for something, so many bytes being taken
 abbrev pub state_at : State → ℕ → Waiting → State
@@ -129,50 +129,58 @@ unfoldable pub piece_taken : List ℕ → State → ℕ → Waiting → List ℕ
 piece_taken rules s taken w kept t = (
   kept_of (walked_on rules w).bytes (taken_in (held_in s) w.bytes kept),
   laid (settled rules w) t,
-  length (settled rules w),
-  fed_as (state_at s taken (walked_on rules w)) answer.done,
+  state_at s taken (walked_on rules w),
+  Ok (length (settled rules w)),
 )
 
 unfoldable pub feed_out : State → List ℕ → List ℕ → List ℕ → List ℕ → FeedOut
 feed_out s columns piece kept t =
     cond (usable s columns kept)
-    (cond (ltb most_piece (length piece) || ltb (capacity t) least_room) (feed_refused answer.bad_piece s kept t)
-    (cond (ltb most_bytes (s.taken + length piece)) (feed_refused answer.too_long (shut_down s) kept t)
+    (cond (ltb most_piece (length piece) || ltb (capacity t) least_room) (feed_refused BadPiece s kept t)
+    (cond (ltb most_bytes (s.taken + length piece)) (feed_refused TooLong (shut_down s) kept t)
     (piece_taken (rules_at s columns) s (s.taken + length piece) (joined (waiting_of s kept) piece) kept t)))
-    (feed_refused answer.not_receiving s kept t)
+    (feed_refused NotReceiving s kept t)
 
--- the receiver, the table, its rows, and the answer
+-- the rows that are told, and the answer's number: no row with a refusal
+abbrev pub feed_told : Result ℕ Refusal → ℕ × ℕ
+feed_told (Ok rows) = (rows, answer.done)
+feed_told (Err refusal) = (0, number_of refusal)
+
+-- the receiver, the table, its rows, and the answer's number
 abbrev pub fed_out : Receiver → List ℕ → List ℕ → Receiver × List ℕ × ℕ × ℕ
 fed_out r piece t =
     let out = feed_out r.state r.rules piece r.kept t in
-    (record { state = out.3.state; rules = r.rules; kept = out.0 }, out.1, out.2, out.3.answer)
+    let told = feed_told out.3 in
+    (record { state = out.2; rules = r.rules; kept = out.0 }, out.1, told.0, told.1)
 
 -- ---- finish
 
--- the table, what is told, and the state with the answer
+-- the table, the state, and the listing
 abbrev pub FinishOut : Type 0
-FinishOut = List ℕ × List ℕ × Fed
+FinishOut = List ℕ × State × Result Listing Refusal
 
-abbrev pub finish_refused : ℕ → State → List ℕ → FinishOut
-finish_refused number s t = (t, replicate 5 0, fed_as s number)
+abbrev pub finish_refused : Refusal → State → List ℕ → FinishOut
+finish_refused refusal s t = (t, s, Err refusal)
 
 -- the last row, if any, is laid at the table's start
 unfoldable pub finished : List ℕ → State → Waiting → List ℕ → FinishOut
-finished rules s w t = (
-  laid (rows_found (last_tries rules w)) t,
-  listing_told (last_listing rules w),
-  fed_as (shut_down s) (number_of (last_listing rules w).answer),
-)
+finished rules s w t = (laid (rows_found (last_tries rules w)) t, shut_down s, Ok (last_listing rules w))
 
 unfoldable pub finish_out : State → List ℕ → List ℕ → List ℕ → FinishOut
 finish_out s columns kept t =
     cond (usable s columns kept)
-    (cond (ltb (capacity t) least_room) (finish_refused answer.bad_piece s t)
+    (cond (ltb (capacity t) least_room) (finish_refused BadPiece s t)
     (finished (rules_at s columns) s (waiting_of s kept) t))
-    (finish_refused answer.not_receiving s t)
+    (finish_refused NotReceiving s t)
 
--- the receiver, the table, what is told, and the answer
+-- the numbers that are told, and the answer's: zeros with a refusal
+abbrev pub finish_told : Result Listing Refusal → List ℕ × ℕ
+finish_told (Ok l) = (listing_told l, listing.number_of l.answer)
+finish_told (Err refusal) = (replicate 5 0, number_of refusal)
+
+-- the receiver, the table, the numbers that are told, and the answer's
 abbrev pub finished_out : Receiver → List ℕ → Receiver × List ℕ × List ℕ × ℕ
 finished_out r t =
     let out = finish_out r.state r.rules r.kept t in
-    (record { state = out.2.state; rules = r.rules; kept = r.kept }, out.0, out.1, out.2.answer)
+    let told = finish_told out.2 in
+    (record { state = out.1; rules = r.rules; kept = r.kept }, out.0, told.0, told.1)

@@ -1,7 +1,8 @@
 -- What the inner functions of the receiver give: a record that is all in, those of some bytes, and what is kept after them.
-use Rattle.std.specs.Prelude.{ℕ, ◌+◌, ◌-◌, List, ◌++◌, Bool, cond, ◌&&◌, eqb, leb, length, take, drop, replicate}
+use Rattle.std.specs.Prelude.{ℕ, ◌+◌, ◌-◌, ◌*◌, ◌^◌, ◌≤◌, ◌<◌, List, ◌++◌, Bool, cond, ◌&&◌, eqb, leb, length, take, drop, replicate}
 use Rattle.header_judge.specs.Head.{declared_by, Head}
-use Rattle.region_rows.specs.Rows.{with_span, stored, laid}
+use Rattle.region_rows.specs.declared.Span.{Span}
+use Rattle.region_rows.specs.Rows.{width, with_span, stored, laid}
 use Rattle.region_try.specs.Stops.{stop_by, bad_type_by}
 use Rattle.region_try.specs.Tries.{Try, none, hit, rows_found}
 use Rattle.region_try.specs.Whole.{clean_stop, keeps_whole}
@@ -13,26 +14,36 @@ use Rattle.region.specs.declared.Listing.{Listing}
 use Rattle.receiver.specs.Arrived.{arrived, extent, whole_with}
 use Rattle.receiver.specs.Waiting.{Waiting, last_tries, last_listing}
 use Rattle.receiver.specs.Calls.{most_kept, kept_of}
-use Rattle.receiver.specs.declared.pass.Passed.{Passed}
 use Rattle.receiver.specs.declared.piece.Moved.{Moved}
 
 -- the bytes of the record that a header declares, where so many have come: 0 where it declares none, or more
 unfoldable pub bytes_in : ℕ → Head → ℕ
 bytes_in left head = cond (leb (declared_by head) left) (declared_by head) 0
 
--- a pass over some bytes that start at an offset: the table with the rows of the records that are all in, from one on, how many rows there are then,
--- where the records end, and whether all is whole so far
-unfoldable pub pass_of : List ℕ → List ℕ → ℕ → ℕ → Bool → List ℕ → List ℕ × Passed
-pass_of rules bytes offset rows whole t =
-    let rs = arrived rules bytes offset in
-    (stored t rows rs, record { rows = rows + length rs; at = extent rs; whole = whole_with whole rs })
+-- so many bytes can be walked from a place: their offsets and rows are numbers that fit, and the table has room for a row each
+abbrev pub HasRoom : Moved → ℕ → List ℕ → Type 0
+HasRoom m count t = (m.offset + count < 2 ^ 32) × (m.rows + count < 2 ^ 32) × ((m.rows + count) * width ≤ length t)
 
--- what the records of some bytes that are all in leave: the kept bytes, the table with their rows from one on, how many rows there are then,
--- the offset past them, and whether all is whole so far
-unfoldable pub moved_of : List ℕ → List ℕ → ℕ → ℕ → Bool → List ℕ → List ℕ → List ℕ × List ℕ × Moved
-moved_of rules bytes offset rows whole kept t =
-    let rs = arrived rules bytes offset in
-    (kept_of (drop (extent rs) bytes) kept, stored t rows rs, record { rows = rows + length rs; offset = offset + extent rs; whole = whole_with whole rs })
+-- past one try: where it finds a record, that has its row
+unfoldable pub put_of : Try → Moved → List ℕ → List ℕ × Moved
+put_of (none level offset head) m t = (t, m)
+put_of (hit r) m t = (with_span t m.rows r, record { rows = m.rows + 1; offset = m.offset + r.declared; whole = m.whole && keeps_whole (hit r) })
+
+-- past some records
+abbrev pub moved_past : Moved → List Span → Moved
+moved_past m rs = record { rows = m.rows + length rs; offset = m.offset + extent rs; whole = whole_with m.whole rs }
+
+-- a pass over some bytes from where a walk stands: the table with the rows of the records that are all in, and how far the walk has come
+unfoldable pub pass_of : List ℕ → List ℕ → Moved → List ℕ → List ℕ × Moved
+pass_of rules bytes m t =
+    let rs = arrived rules bytes m.offset in
+    (stored t m.rows rs, moved_past m rs)
+
+-- and the bytes that are kept after it
+unfoldable pub moved_of : List ℕ → List ℕ → Moved → List ℕ → List ℕ → List ℕ × List ℕ × Moved
+moved_of rules bytes m kept t =
+    let rs = arrived rules bytes m.offset in
+    (kept_of (drop (extent rs) bytes) kept, stored t m.rows rs, moved_past m rs)
 
 -- what has come, where so many bytes are held and the first of them kept
 abbrev pub held_bytes : ℕ → List ℕ → List ℕ

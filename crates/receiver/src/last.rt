@@ -4,16 +4,19 @@ ghost use Rattle.header_judge.specs.Steps.{HeadBounds};
 ghost use Rattle.region_rows.specs.Rows.{width, top};
 ghost use Rattle.region_try.specs.Tries.{try_of};
 ghost use Rattle.region_try.specs.Whole.{clean_stop};
-ghost use Rattle.receiver.specs.Calls.{rules_at, waiting_of, usable};
+ghost use Rattle.receiver.specs.Lookups.{rules_of};
+ghost use Rattle.receiver.specs.Calls.{waiting_of, usable};
 ghost use Rattle.receiver.specs.Steps.{bytes_in, listing_at, end_at, last_of};
 
-use crate::{KEPT, State, see_kept};
+use crate::lookup::Lookup;
+use crate::piece::Moved;
+use crate::{KEPT, State};
 use header_judge::Head;
+use header_judge::version::word_of;
 use region::Listing;
 use region_rows::TOP;
 use region_try::Cut;
 use region_try::stop::{Stop, clean_stop, stop_ended};
-use rules::columns::NUMBERS;
 
 // The listing of a walk that is not cut off: its rows are those that are written now, the answer goes by all of them.
 fn listing_at(
@@ -28,68 +31,67 @@ fn listing_at(
 {
     let answer = region::answer_of(Cut::Going, all_rows, stop, bad_type);
     Listing {
-        answer: answer,
+        answer,
         rows: written,
-        tries: tries,
+        tries,
         whole: (region::number_of(answer) == answers::DONE) & whole,
-        stop: stop,
+        stop,
     }
 }
 
 // The listing where the walk stops at a header that is no record.
-fn at_stop(rows: u32, whole: bool, stop: Stop, bad_type: u32) -> Listing
-    requires { rows < 2 ^ 32 }
-    ensures { result ≡ listing_at rows 0 (rows + 1) (whole && clean_stop stop) stop bad_type }
+fn at_stop(from: Moved, stop: Stop, bad_type: u32) -> Listing
+    requires { from.rows < 2 ^ 32 }
+    ensures { result ≡ listing_at from.rows 0 (from.rows + 1) (from.whole && clean_stop stop) stop bad_type }
 {
+    let tries = (from.rows as u64) + 1;
     listing_at(
-        rows,
+        from.rows,
         0,
-        (rows as u64) + 1,
-        whole & clean_stop(stop),
+        tries,
+        from.whole & clean_stop(stop),
         stop,
         bad_type,
     )
 }
 
-// The listing where the walk stands at a header, after so many rows: a record lacks bytes, or declares none.
-fn at_head(
-    head: Head,
-    offset: usize,
-    held: usize,
-    rows: u32,
-    whole: bool,
-    spans: &mut [u32],
-) -> Listing
-    requires { HeadBounds head × (bytes_in held head ≡ 0) × (offset < 2 ^ 32) × (rows + 1 < 2 ^ 32) × (width ≤ length spans.old) }
-    ensures { (spans.new, result) ≡ end_at (try_of 0 top offset held head) rows whole spans.old }
+// The listing where the walk stands at a header: a record lacks bytes, or declares none.
+fn at_head(head: Head, held: usize, from: Moved, spans: &mut [u32]) -> Listing
+    requires { HeadBounds head × (bytes_in held head ≡ 0) × (from.offset < 2 ^ 32) × (from.rows + 1 < 2 ^ 32) × (width ≤ length spans.old) }
+    ensures { (spans.new, result) ≡ end_at (try_of 0 top from.offset held head) from.rows from.whole spans.old }
 {
     match head {
-        Head::Ended(ending) => at_stop(rows, whole, stop_ended(ending), 0),
-        Head::BadHeader => at_stop(rows, whole, Stop::BadHeader, 0),
-        Head::BadType(header_type) => at_stop(rows, whole, Stop::BadType, header_type),
+        Head::Ended(ending) => at_stop(from, stop_ended(ending), 0),
+        Head::BadHeader => at_stop(from, Stop::BadHeader, 0),
+        Head::BadType(header_type) => at_stop(from, Stop::BadType, header_type),
         Head::Record(summary) => {
             if summary.declared == 0 {
-                return at_stop(rows, whole, Stop::SizeZero, 0);
+                return at_stop(from, Stop::SizeZero, 0);
             }
-            region_rows::put(spans, 0, region_try::span_of(0, TOP, offset, held, summary));
+            let span = region_try::span_of(0, TOP, from.offset, held, summary);
+            region_rows::put(spans, 0, span);
+            let rows = from.rows;
             listing_at(rows + 1, 1, (rows as u64) + 1, false, Stop::EndOfInput, 0)
         }
     }
 }
 
 // The listing at the end of the bytes, of which the first are kept.
-pub fn last(state: State, rules: &[u32; NUMBERS], kept: &[u8], spans: &mut [u32]) -> Listing
-    requires { (usable state rules.now kept.now ≡ true) × (length kept.now ≡ 536) × (6000 ≤ length spans.old) }
-    ensures { (spans.new, result) ≡ last_of (rules_at state rules.now) (waiting_of state kept.now) spans.old }
+pub fn last(state: State, lookup: Lookup, kept: &[u8], spans: &mut [u32]) -> Listing
+    requires { (usable state lookup.rules.now kept.now ≡ true) × (lookup.blocks ≡ state.rule_blocks) × (length kept.now ≡ 536) × (6000 ≤ length spans.old) }
+    ensures { (spans.new, result) ≡ last_of (rules_of lookup.entry) (waiting_of state kept.now) spans.old }
 {
-    let rows = state.rows as u32;
-    let whole = state.whole == 1;
-    let held = (state.taken - state.offset) as usize;
+    let from = Moved {
+        rows: state.rows as u32,
+        offset: state.offset as usize,
+        whole: state.whole == 1,
+    };
+    let held = state.held();
     if held == 0 {
-        return listing_at(rows, 0, state.rows, whole, Stop::EndOfInput, 0);
+        return listing_at(from.rows, 0, state.rows, from.whole, Stop::EndOfInput, 0);
     }
-    let seen = see_kept(held, rules, state.rule_blocks as usize, kept);
-    let len = region_rows::least(held, KEPT);
-    let head = header_judge::judge_with(&kept[..len], seen.word, seen.flags);
-    at_head(head, state.offset as usize, held, rows, whole, spans)
+    let front = &kept[..held.min(KEPT)];
+    let lookup = lookup.with_word(word_of(front));
+    let head = header_judge::judge_with(front, lookup.word, lookup.flags);
+    at_head(head, held, from, spans)
 }

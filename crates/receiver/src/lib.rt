@@ -1,23 +1,27 @@
-// The receiver of a region that comes in pieces (document 02, C-11), by value: start, feed and finish.
+// The receiver of a region that comes in pieces: start, feed and finish. The state is a value; the rules and the kept bytes are lent.
 #![tactic(auto)]
 
-ghost use Rattle.std.specs.Prelude.{◌≡◌, true, ◌++◌, ◌*◌, ◌≤◌, eqb, length, take};
-ghost use Rattle.rules.specs.Columns.{rules_in};
-ghost use Rattle.header_judge.specs.Version.{word_of};
+ghost use Rattle.std.specs.Prelude.{◌≡◌, true, ◌++◌, ◌*◌, ◌≤◌, eqb, length, take, is_some, IfSome};
 ghost use Rattle.header_judge.specs.Head.{head_of};
-ghost use Rattle.header_judge.specs.Steps.{Known};
+ghost use Rattle.receiver.specs.Lookups.{rules_of, SameRules};
 ghost use Rattle.receiver.specs.Steps.{bytes_in, moved_of};
-ghost use Rattle.receiver.specs.Calls.{shut_down, in_bounds, sound, held_in, waiting_of, rules_at, usable, start_out, taken_in, fed_as, feed_out, finish_out};
+ghost use Rattle.receiver.specs.Calls.{shut_down, in_bounds, sound, held_in, waiting_of, rules_at, usable, start_out, taken_in, feed_out, finish_out};
 
+pub mod front;
 pub mod last;
+pub mod lookup;
 pub mod pass;
 pub mod piece;
+pub mod refusal;
 
 use answers::MOST_BYTES;
-use header_judge::version::{NO_WORD, bit_of, word_of};
+use front::Front;
+use header_judge::version::bit_of;
 use last::last;
-use pass::bytes_in;
+use lookup::Lookup;
 use piece::{Moved, after_held, walk_on};
+use refusal::Refusal;
+use region::Listing;
 use rules::columns::NUMBERS;
 
 // The most bytes that are kept.
@@ -40,6 +44,7 @@ const MOST_DECLARED: u64 = 524280;
 
 // What a receiver knows, beside its rules and the bytes that it keeps: the bytes taken; the offset of the record that it waits for; the
 // records before it; the blocks of its rules; whether each of those records leaves the listing whole; and whether it is in use.
+// C lends it, so its flags are numbers and its facts are tested: nothing is known of what C hands in.
 #[repr(C)]
 #[derive(Clone, Copy)]
 pub struct State {
@@ -60,32 +65,87 @@ pub struct Receiver {
     pub kept: [u8; KEPT],
 }
 
-// A call's answer, and the state after it.
-#[derive(Clone, Copy)]
-pub struct Fed {
-    pub state: State,
-    pub answer: u32,
+impl State {
+    // Whether the numbers are such as a call leaves. The ranges are tested without a branch, since each feed tests them all.
+    fn in_bounds(self) -> bool
+        ensures { result ≡ in_bounds self }
+    {
+        let in_range = (self.stage == IN_USE)
+            & (self.whole <= 1)
+            & (self.rule_blocks <= MOST_BLOCKS)
+            & (self.taken <= (MOST_BYTES as u64))
+            & (self.offset <= self.taken)
+            & (self.rows <= self.offset);
+        if !in_range {
+            return false;
+        }
+        (self.offset <= self.rows * MOST_DECLARED) & ((0 < self.rows) | (self.whole == 1))
+    }
+
+    // Whether the numbers and the rules are such as a call leaves.
+    fn sound(self, rules: &[u32; NUMBERS]) -> bool
+        ensures { result ≡ sound self rules.now }
+    {
+        if !self.in_bounds() {
+            return false;
+        }
+        rules::columns::valid_in(rules, self.rule_blocks as usize)
+    }
+
+    // How many bytes have come from the offset on.
+    pub fn held(self) -> usize
+        requires { self.offset ≤ self.taken }
+        ensures { result ≡ held_in self }
+    {
+        (self.taken - self.offset) as usize
+    }
+
+    // The rules, with what the kept bytes tell, where a call can go on from them: where no record of them is all in.
+    fn see<'a>(self, rules: &'a [u32; NUMBERS], kept: &[u8]) -> Option<Lookup<'a>>
+        requires { length kept.now ≡ 536 }
+        ensures usable { is_some result ≡ usable self rules.now kept.now }
+        ensures lookup { IfSome result (λ l. (l.rules.now ≡ rules.now) × (l.blocks ≡ self.rule_blocks)) }
+    {
+        if !self.sound(rules) {
+            return None;
+        }
+        let lookup = Lookup::new(rules, self.rule_blocks as usize);
+        let held = self.held();
+        if held == 0 {
+            return Some(lookup);
+        }
+        see_kept(held, lookup, kept)
+    }
+
+    // No call goes on from it.
+    fn shut(&mut self)
+        ensures { self.new ≡ shut_down self.old }
+    {
+        self.stage = SHUT;
+    }
 }
 
-// A call's answer, and the receiver after it.
-#[derive(Clone, Copy)]
-pub struct Turned {
-    pub receiver: Receiver,
-    pub answer: u32,
+// What `held` bytes tell, by those that are kept, where no record of them is all in.
+fn see_kept<'a>(held: usize, lookup: Lookup<'a>, kept: &[u8]) -> Option<Lookup<'a>>
+    requires { length kept.now ≡ 536 }
+    ensures waits { is_some result ≡ eqb (bytes_in held (head_of (rules_of lookup.entry) (take held kept.now))) 0 }
+    ensures lookup { IfSome result (λ l. SameRules l lookup.entry) }
+{
+    let front = Front::read(&kept[..held.min(KEPT)], lookup);
+    if front.bytes_in(held) == 0 {
+        return Some(front.lookup);
+    }
+    None
 }
 
-// A receiver that has got no byte, in the place of whatever it was.
-pub fn start(receiver: Receiver, rules: &[u32]) -> Turned
-    ensures { result ≡ start_out receiver rules.now }
+// A receiver that has got no byte.
+pub fn start(rules: &[u32]) -> Result<Receiver, Refusal>
+    ensures { result ≡ start_out rules.now }
 {
     if !rules::valid(rules) {
-        return Turned {
-            receiver: receiver,
-            answer: answers::BAD_RULES,
-        };
+        return Err(Refusal::BadRules);
     }
     let blocks = rules::columns::blocks_of(rules.len() / rules::NUMBERS_IN_RULE);
-    let columns = rules::columns::columns_of(rules);
     let state = State {
         taken: 0,
         offset: 0,
@@ -94,212 +154,81 @@ pub fn start(receiver: Receiver, rules: &[u32]) -> Turned
         whole: 1,
         stage: IN_USE,
     };
-    let kept = [0u8; KEPT];
-    Turned {
-        receiver: Receiver {
-            state: state,
-            rules: columns,
-            kept: kept,
-        },
-        answer: answers::DONE,
-    }
+    Ok(Receiver {
+        state,
+        rules: rules::columns::columns_of(rules),
+        kept: [0; KEPT],
+    })
 }
 
-// Whether a call can go on from a state and its kept bytes, and their word with its flags, so that they are looked up once.
-#[derive(Clone, Copy)]
-struct Seen {
-    usable: bool,
-    word: u32,
-    flags: u32,
-}
-
-// Whether a state's numbers are such as a call leaves.
-fn in_bounds(state: State) -> bool
-    ensures { result ≡ in_bounds state }
-{
-    let in_range = (state.stage == IN_USE)
-        & (state.whole <= 1)
-        & (state.rule_blocks <= MOST_BLOCKS)
-        & (state.taken <= (MOST_BYTES as u64))
-        & (state.offset <= state.taken)
-        & (state.rows <= state.offset);
-    if !in_range {
-        return false;
-    }
-    (state.offset <= state.rows * MOST_DECLARED) & ((0 < state.rows) | (state.whole == 1))
-}
-
-// Whether a state's numbers and its rules are such as a call leaves.
-fn sound(state: State, rules: &[u32; NUMBERS]) -> bool
-    ensures { result ≡ sound state rules.now }
-{
-    if !in_bounds(state) {
-        return false;
-    }
-    rules::columns::valid_in(rules, state.rule_blocks as usize)
-}
-
-// What `held` bytes tell, by those that are kept: whether no record of them is all in.
-fn see_kept(held: usize, rules: &[u32; NUMBERS], blocks: usize, kept: &[u8]) -> Seen
-    requires { (blocks ≤ 8) × (length kept.now ≡ 536) }
-    ensures usable_value { result.usable ≡ eqb (bytes_in held (head_of (rules_in rules.now (blocks * 8)) (take held kept.now))) 0 }
-    ensures word_value { (result.word ≡ word_of (take held kept.now)) × Known (rules_in rules.now (blocks * 8)) result.word result.flags }
-{
-    let len = region_rows::least(held, KEPT);
-    let word = word_of(&kept[..len]);
-    let flags = rules::columns::flags_in(rules, blocks, word);
-    let size = header_judge::size_of(&kept[..len], word, flags);
-    Seen {
-        usable: bytes_in(&kept[..len], word, flags, size, held) == 0,
-        word: word,
-        flags: flags,
-    }
-}
-
-// What a state and its kept bytes tell. A call can go on from them where no record of them is all in.
-fn see(state: State, rules: &[u32; NUMBERS], kept: &[u8]) -> Seen
-    requires { length kept.now ≡ 536 }
-    ensures usable_value { result.usable ≡ usable state rules.now kept.now }
-    ensures known { Known (rules_at state rules.now) result.word result.flags }
-{
-    if !sound(state, rules) {
-        return Seen {
-            usable: false,
-            word: NO_WORD,
-            flags: 0,
-        };
-    }
-    let held = (state.taken - state.offset) as usize;
-    if held == 0 {
-        return Seen {
-            usable: true,
-            word: NO_WORD,
-            flags: 0,
-        };
-    }
-    see_kept(held, rules, state.rule_blocks as usize, kept)
-}
-
-// A state that no call goes on from.
-fn shut_down(state: State) -> State
-    ensures { result ≡ shut_down state }
-{
-    State {
-        taken: state.taken,
-        offset: state.offset,
-        rows: state.rows,
-        rule_blocks: state.rule_blocks,
-        whole: state.whole,
-        stage: SHUT,
-    }
-}
-
-// A refusal: nothing is written, and only the state may change.
-fn refused(state: State, answer: u32, rows: &mut u64) -> Fed
-    ensures { (rows.new ≡ 0) × (result ≡ fed_as state answer) }
-{
-    *rows = 0;
-    Fed {
-        state: state,
-        answer: answer,
-    }
-}
-
-// A piece that is taken. The flags of the last word are known.
+// A piece that is taken.
 fn take_piece(
     state: State,
-    rules: &[u32; NUMBERS],
-    last: u32,
-    known: u32,
+    lookup: Lookup,
     piece: &[u8],
     kept: &mut [u8],
     spans: &mut [u32],
 ) -> Moved
-    requires kept_value { (usable state rules.now kept.old ≡ true) × (length piece.now ≤ 64) × (length kept.old ≡ 536) × (6000 ≤ length spans.old) }
-    requires known { Known (rules_at state rules.now) last known }
-    ensures { (kept.new, spans.new, result) ≡ moved_of (rules_at state rules.now) ((waiting_of state kept.old).bytes ++ piece.now) state.offset 0 (eqb state.whole 1) (taken_in (held_in state) ((waiting_of state kept.old).bytes ++ piece.now) kept.old) spans.old }
+    requires state { (usable state lookup.rules.now kept.old ≡ true) × (lookup.blocks ≡ state.rule_blocks) }
+    requires room { (length piece.now ≤ 64) × (length kept.old ≡ 536) × (6000 ≤ length spans.old) }
+    ensures { (kept.new, spans.new, result) ≡ moved_of (rules_of lookup.entry) ((waiting_of state kept.old).bytes ++ piece.now) (record { rows = 0; offset = state.offset; whole = eqb state.whole 1 }) (taken_in (held_in state) ((waiting_of state kept.old).bytes ++ piece.now) kept.old) spans.old }
 {
-    let blocks = state.rule_blocks as usize;
     let from = Moved {
         rows: 0,
         offset: state.offset as usize,
         whole: state.whole == 1,
     };
-    let held = (state.taken - state.offset) as usize;
+    let held = state.held();
     if held == 0 {
-        return walk_on(piece, rules, blocks, last, known, from, kept, spans);
+        return walk_on(piece, lookup, from, kept, spans);
     }
-    after_held(held, rules, blocks, last, known, from, piece, kept, spans)
+    after_held(held, lookup, from, piece, kept, spans)
 }
 
-// Takes a piece: the rows that are all in with it go to the table's start, and `rows` tells how many they are.
+// Takes a piece: the rows that are all in with it go to the table's start. How many they are.
 pub fn feed(
-    state: State,
+    state: &mut State,
     rules: &[u32; NUMBERS],
     piece: &[u8],
     kept: &mut [u8],
     spans: &mut [u32],
-    rows: &mut u64,
-) -> Fed
+) -> Result<u64, Refusal>
     requires { length kept.old ≡ 536 }
-    ensures { (kept.new, spans.new, rows.new, result) ≡ feed_out state rules.now piece.now kept.old spans.old }
+    ensures { (kept.new, spans.new, state.new, result) ≡ feed_out state.old rules.now piece.now kept.old spans.old }
 {
-    let seen = see(state, rules, kept);
-    if !seen.usable {
-        return refused(state, answers::NOT_RECEIVING, rows);
-    }
+    let lookup = state.see(rules, kept).ok_or(Refusal::NotReceiving)?;
     if (MOST_PIECE < piece.len()) | (region_rows::room_of(spans) < LEAST_ROOM) {
-        return refused(state, answers::BAD_PIECE, rows);
+        return Err(Refusal::BadPiece);
     }
     let taken = state.taken + (piece.len() as u64);
     if (MOST_BYTES as u64) < taken {
-        return refused(shut_down(state), answers::TOO_LONG, rows);
+        state.shut();
+        return Err(Refusal::TooLong);
     }
-    let moved = take_piece(state, rules, seen.word, seen.flags, piece, kept, spans);
-    *rows = moved.rows as u64;
-    Fed {
-        state: State {
-            taken: taken,
-            offset: moved.offset as u64,
-            rows: state.rows + (moved.rows as u64),
-            rule_blocks: state.rule_blocks,
-            whole: bit_of(moved.whole),
-            stage: IN_USE,
-        },
-        answer: answers::DONE,
-    }
+    let moved = take_piece(*state, lookup, piece, kept, spans);
+    let rows = moved.rows as u64;
+    state.taken = taken;
+    state.offset = moved.offset as u64;
+    state.rows += rows;
+    state.whole = bit_of(moved.whole);
+    Ok(rows)
 }
 
 // The end of the bytes: a last short row, if a record lacks bytes, and what is told of the walk.
 pub fn finish(
-    state: State,
+    state: &mut State,
     rules: &[u32; NUMBERS],
     kept: &[u8],
     spans: &mut [u32],
-    told: &mut [u64; 5],
-) -> Fed
+) -> Result<Listing, Refusal>
     requires { length kept.now ≡ 536 }
-    ensures { (spans.new, told.new, result) ≡ finish_out state rules.now kept.now spans.old }
+    ensures { (spans.new, state.new, result) ≡ finish_out state.old rules.now kept.now spans.old }
 {
-    *told = [0, 0, 0, 0, 0];
-    let seen = see(state, rules, kept);
-    if !seen.usable {
-        return Fed {
-            state: state,
-            answer: answers::NOT_RECEIVING,
-        };
-    }
+    let seen = state.see(rules, kept).ok_or(Refusal::NotReceiving)?;
     if region_rows::room_of(spans) < LEAST_ROOM {
-        return Fed {
-            state: state,
-            answer: answers::BAD_PIECE,
-        };
+        return Err(Refusal::BadPiece);
     }
-    let listing = last(state, rules, kept, spans);
-    *told = region::listing_told(listing);
-    let answer = listing.answer;
-    Fed {
-        state: shut_down(state),
-        answer: region::number_of(answer),
-    }
+    let listing = last(*state, seen, kept, spans);
+    state.shut();
+    Ok(listing)
 }

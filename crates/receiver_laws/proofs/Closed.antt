@@ -17,7 +17,8 @@ use Rattle.region.specs.declared.Answer.{Answer}
 use Rattle.region.specs.declared.Answer.TheVariants.{Done, TooLong, BadRules, NotCper, BadHeader, BadType, Empty, SpansFull, TriesSpent}
 use Rattle.receiver.specs.Arrived.{top_tries, arrived}
 use Rattle.receiver.specs.Waiting.{Waiting, last_listing}
-use Rattle.receiver.specs.Calls.{shut, shut_down, rules_at, waiting_of, in_bounds, sound, usable, least_room, feed_out, FinishOut, finish_refused, finished, finish_out, finished_out}
+use Rattle.receiver.specs.Calls.{shut, shut_down, rules_at, waiting_of, in_bounds, sound, usable, least_room, feed_out, FinishOut, finish_refused, finished, finish_out, finish_told, finished_out}
+use Rattle.receiver.specs.declared.refusal.Refusal.TheVariants.{BadPiece, NotReceiving}
 use Rattle.receiver.specs.declared.State.{State}
 use Rattle.receiver.specs.declared.Receiver.{Receiver}
 use Rattle.receiver.proofs.Arrived.{top_try, top_end, top_alone}
@@ -68,9 +69,9 @@ listing_answers TriesSpent = refl
 module _ (r : Receiver) (t : List ℕ) where
   -- what a finish comes to
   record Turn (out : FinishOut) : Type 0 where
-    untouched : refuses out.2.answer ≡ true → (out.2.state ≡ r.state) × (out.0 ≡ t)
-    shuts : refuses out.2.answer ≡ false → out.2.state ≡ shut_down r.state
-    few : get_or out.1 0 0 ≤ 1
+    untouched : refuses (finish_told out.2).1 ≡ true → (out.1 ≡ r.state) × (out.0 ≡ t)
+    shuts : refuses (finish_told out.2).1 ≡ false → out.1 ≡ shut_down r.state
+    few : get_or (finish_told out.2).0 0 0 ≤ 1
 
   turn : Turn (finish_out r.state r.rules r.kept t)
   unfolding finish_out finished last_listing
@@ -83,7 +84,7 @@ module _ (r : Receiver) (t : List ℕ) where
       w = waiting_of r.state r.kept
 
       by : (u : Bool) → usable r.state r.rules r.kept ≡ u → (p : Bool)
-          → Turn (cond u (cond p (finish_refused answer.bad_piece r.state t) (finished rules r.state w t)) (finish_refused answer.not_receiving r.state t))
+          → Turn (cond u (cond p (finish_refused BadPiece r.state t) (finished rules r.state w t)) (finish_refused NotReceiving r.state t))
       by false u p = record { untouched = λ e. (refl, refl); shuts = λ e. absurd (true≢false e); few = omega arith }
       by true u true = record { untouched = λ e. (refl, refl); shuts = λ e. absurd (true≢false e); few = omega arith }
       by true u false =

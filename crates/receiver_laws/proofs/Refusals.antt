@@ -14,7 +14,8 @@ use Rattle.basics.proofs.Bools.{neither}
 use Rattle.region_rows.specs.declared.Span.{Span}
 use Rattle.region_rows.specs.Rows.{capacity, spans_in}
 use Rattle.receiver.specs.Waiting.{Waiting, joined}
-use Rattle.receiver.specs.Calls.{shut_down, rules_at, waiting_of, usable, most_piece, least_room, FeedOut, feed_refused, piece_taken, feed_out}
+use Rattle.receiver.specs.Calls.{shut_down, rules_at, waiting_of, usable, most_piece, least_room, FeedOut, feed_refused, piece_taken, feed_out, feed_told}
+use Rattle.receiver.specs.declared.refusal.Refusal.TheVariants.{BadPiece, TooLong, NotReceiving}
 use Rattle.receiver.specs.declared.State.{State}
 use Rattle.receiver.specs.declared.Receiver.{Receiver}
 use Rattle.receiver_laws.specs.Received.{Call, called, Fits, AllFit, refuses, refused, without_refused, after_calls, rows_seen}
@@ -27,14 +28,14 @@ module _ (r : Receiver) (c : Call) where
 
   -- a feed leaves a state, and all else as it was
   abbrev Leaves : State → FeedOut → Type 0
-  Leaves left out = (out.3.state ≡ left) × (out.0 ≡ r.kept) × (out.1 ≡ c.table) × (out.2 ≡ 0)
+  Leaves left out = (out.2 ≡ left) × (out.0 ≡ r.kept) × (out.1 ≡ c.table) × ((feed_told out.3).0 ≡ 0)
 
   -- what a feed comes to
   record Turn (out : FeedOut) : Type 0 where
-    untouched : refuses out.3.answer ≡ true → Leaves s out
-    closed : out.3.answer ≡ answer.too_long → Leaves (shut_down s) out
-    fits : refuses out.3.answer ≡ false → Fits c
-    few : out.2 ≤ least_room
+    untouched : refuses (feed_told out.3).1 ≡ true → Leaves s out
+    closed : (feed_told out.3).1 ≡ answer.too_long → Leaves (shut_down s) out
+    fits : refuses (feed_told out.3).1 ≡ false → Fits c
+    few : (feed_told out.3).0 ≤ least_room
 
   turn : Turn (feed_out s r.rules c.piece r.kept c.table)
   unfolding feed_out piece_taken
@@ -51,10 +52,10 @@ module _ (r : Receiver) (c : Call) where
           record { few = omega arith; room = omega arith }
 
       by : (u : Bool) → usable s r.rules r.kept ≡ u → (p : Bool) → (ltb most_piece (length c.piece) || ltb (capacity c.table) least_room) ≡ p → (l : Bool)
-          → Turn (cond u (cond p (feed_refused answer.bad_piece s r.kept c.table)
-          (cond l (feed_refused answer.too_long (shut_down s) r.kept c.table)
+          → Turn (cond u (cond p (feed_refused BadPiece s r.kept c.table)
+          (cond l (feed_refused TooLong (shut_down s) r.kept c.table)
           (piece_taken (rules_at s r.rules) s (s.taken + length c.piece) (joined w c.piece) r.kept c.table)))
-          (feed_refused answer.not_receiving s r.kept c.table))
+          (feed_refused NotReceiving s r.kept c.table))
       by false u p q l = record { untouched = λ e. (refl, refl, refl, refl); closed = λ e. absurd (omega arith); fits = λ e. absurd (true≢false e); few = omega arith }
       by true u true q l = record { untouched = λ e. (refl, refl, refl, refl); closed = λ e. absurd (omega arith); fits = λ e. absurd (true≢false e); few = omega arith }
       by true u false q true =

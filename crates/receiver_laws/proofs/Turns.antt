@@ -17,7 +17,7 @@ use Rattle.region.specs.Listing.{number_of, listing_told}
 use Rattle.region.specs.declared.Listing.{Listing}
 use Rattle.receiver.specs.Arrived.{top_tries, all_in, extent, whole_with}
 use Rattle.receiver.specs.Waiting.{Waiting, past, joined, settled, walked_on, last_tries, last_listing}
-use Rattle.receiver.specs.Calls.{most_kept, held_in, rules_at, waiting_of, started, most_piece, least_room, FeedOut, taken_in, piece_taken, feed_out, fed_out, FinishOut, finished, finish_out, finished_out}
+use Rattle.receiver.specs.Calls.{most_kept, held_in, rules_at, waiting_of, started, most_piece, least_room, FeedOut, taken_in, piece_taken, feed_out, feed_told, fed_out, FinishOut, finished, finish_out, finish_told, finished_out}
 use Rattle.receiver.specs.declared.State.{State}
 use Rattle.receiver.specs.declared.Receiver.{Receiver}
 use Rattle.receiver.proofs.Arrived.{arrived_end}
@@ -87,7 +87,7 @@ module _ (rules bytes : List ℕ) (r : Receiver) (stands : Stands rules bytes r)
 
     pub fed_answer : (fed_out r piece t).3 ≡ answer.done
     unfolding piece_taken
-    fed_answer = ap (λ (out : FeedOut). out.3.answer) taken
+    fed_answer = ap (λ (out : FeedOut). (feed_told out.3).1) taken
 
   -- ---- the end
 
@@ -113,4 +113,4 @@ module _ (rules bytes : List ℕ) (r : Receiver) (stands : Stands rules bytes r)
 
     pub finished_answer : (finished_out r t).3 ≡ number_of (last_listing rules (after rules bytes)).answer
     unfolding finished
-    finished_answer = ap (λ (out : FinishOut). out.2.answer) ended ∙ ap (λ (l : Listing). number_of l.answer) listing
+    finished_answer = ap (λ (out : FinishOut). (finish_told out.2).1) ended ∙ ap (λ (l : Listing). number_of l.answer) listing

@@ -5,7 +5,14 @@ ghost use Rattle.receiver.specs.Calls.{started_out, fed_out, finished_out};
 use crashlog::receivers::{
     crashlog_receiver_feed, crashlog_receiver_finish, crashlog_receiver_start,
 };
-use receiver::{Receiver, Turned};
+use receiver::Receiver;
+
+// The receiver after a call, and the number that C gets.
+#[derive(Clone, Copy)]
+pub(crate) struct Turned {
+    pub receiver: Receiver,
+    pub answer: u32,
+}
 
 pub(crate) fn started(mut receiver: Receiver, rules: &[u32]) -> Turned
     ensures { (result.receiver, result.answer) ≡ started_out receiver rules.now }

@@ -4,31 +4,31 @@ use native.Mathlib.Omega.{arith}
 use Rattle.receiver.proofs.Bounds.{bounds_range, usable_bounds, usable_waits}
 use Rattle.receiver.proofs.take_piece.Goals as goal
 
-pub overflow_sub-held : goal.overflow_sub-held
-overflow_sub-held c =
+pub held-held-requires : goal.held-held-requires
+held-held-requires c =
     let a = c.args in
-    (bounds_range a.state (usable_bounds a.state a.rules.now a.kept.now c.requires.kept_value.0)).offset
+    (bounds_range a.state (usable_bounds a.state a.lookup.rules.now a.kept.now c.requires.state.0)).offset
 
-pub walk_on-requires-clause-blocks_bound : goal.walk_on-requires-clause-blocks_bound
-walk_on-requires-clause-blocks_bound c =
+pub walk_on-requires : goal.walk_on-requires
+walk_on-requires c =
     let a = c.args in
-    let q = bounds_range a.state (usable_bounds a.state a.rules.now a.kept.now c.requires.kept_value.0) in
+    let q = bounds_range a.state (usable_bounds a.state a.lookup.rules.now a.kept.now c.requires.state.0) in
     let offset = q.offset in
     let taken = q.taken in
-    let short = c.requires.kept_value.1 in
-    let room = c.requires.kept_value.3 in
-    (q.blocks, omega arith, omega arith, omega arith, c.requires.kept_value.2)
+    let room = c.requires.room in
+    ((omega arith, omega arith, omega arith), room.1)
 
-pub after_held-requires-clause-blocks_bound : goal.after_held-requires-clause-blocks_bound
-after_held-requires-clause-blocks_bound c =
+pub after_held-requires-clause-room : goal.after_held-requires-clause-room
+after_held-requires-clause-room c =
     let a = c.args in
-    let q = bounds_range a.state (usable_bounds a.state a.rules.now a.kept.now c.requires.kept_value.0) in
+    let q = bounds_range a.state (usable_bounds a.state a.lookup.rules.now a.kept.now c.requires.state.0) in
     let offset = q.offset in
     let taken = q.taken in
-    let room = c.requires.kept_value.3 in
-    (q.blocks, omega arith, omega arith, omega arith, c.requires.kept_value.1, c.requires.kept_value.2)
+    let room = c.requires.room in
+    let held = c.held-held.ensures in
+    ((omega arith, omega arith, omega arith), omega arith)
 
-pub after_held-requires-clause-known : goal.after_held-requires-clause-known
-after_held-requires-clause-known c =
+pub after_held-requires-clause-waits : goal.after_held-requires-clause-waits
+after_held-requires-clause-waits c =
     let a = c.args in
-    (c.requires.known, usable_waits a.state a.rules.now a.kept.now c.requires.kept_value.2 c.requires.kept_value.0)
+    rw (c.held-held.ensures, c.requires.state.1) (usable_waits a.state a.lookup.rules.now a.kept.now c.requires.room.1 c.requires.state.0)

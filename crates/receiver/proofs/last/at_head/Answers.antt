@@ -7,25 +7,25 @@ use Rattle.receiver.proofs.last.at_head.Goals as goal
 pub returns-then-summary-eq0 : goal.returns-then-summary-eq0
 returns-then-summary-eq0 c =
     let a = c.args in
-    rw c.at_stop-then-summary-eq0.ensures (sym (end_empty a.offset a.held a.rows a.whole a.spans.now c.in-Record.summary c.in-Record.is c.if-summary-eq0.true))
+    rw c.at_stop-then-summary-eq0.ensures (sym (end_empty a.from.offset a.held a.from.rows a.from.whole a.spans.now c.in-Record.summary c.in-Record.is c.if-summary-eq0.true))
 
 pub returns-in-Ended : goal.returns-in-Ended
 returns-in-Ended c =
     let a = c.args in
-    rw (c.at_stop.ensures, c.stop_ended.ensures) (sym (end_ended a.offset a.held a.rows a.whole a.spans.now c.in-Ended.is))
+    rw (c.at_stop.ensures, c.stop_ended.ensures) (sym (end_ended a.from.offset a.held a.from.rows a.from.whole a.spans.now c.in-Ended.is))
 
 pub returns-in-BadHeader : goal.returns-in-BadHeader
 returns-in-BadHeader c =
     let a = c.args in
-    rw c.at_stop-in-BadHeader.ensures (sym (end_bad_header a.offset a.held a.rows a.whole a.spans.now c.in-BadHeader.is))
+    rw c.at_stop-in-BadHeader.ensures (sym (end_bad_header a.from.offset a.held a.from.rows a.from.whole a.spans.now c.in-BadHeader.is))
 
 pub returns-in-BadType : goal.returns-in-BadType
 returns-in-BadType c =
     let a = c.args in
-    rw c.at_stop-in-BadType.ensures (sym (end_bad_type a.offset a.held a.rows a.whole a.spans.now c.in-BadType.is))
+    rw c.at_stop-in-BadType.ensures (sym (end_bad_type a.from.offset a.held a.from.rows a.from.whole a.spans.now c.in-BadType.is))
 
 pub returns-else-summary-eq0 : goal.returns-else-summary-eq0
 returns-else-summary-eq0 c =
     let a = c.args in
-    rw (c.listing_at.ensures, c.put.ensures, c.span_of.ensures)
-    (sym (end_short a.offset a.held a.rows a.whole a.spans.now c.in-Record.summary c.in-Record.is c.if-summary-eq0.false c.requires.1))
+    rw (c.listing_at.ensures, c.put.ensures, c.span_of-span.ensures)
+    (sym (end_short a.from.offset a.held a.from.rows a.from.whole a.spans.now c.in-Record.summary c.in-Record.is c.if-summary-eq0.false c.requires.1))

@@ -8,69 +8,60 @@ use native.Mathlib.Omega.{arith}
 use lib.ListN.{length, take}
 use Rattle.header_judge.specs.Version.{word_of}
 use Rattle.header_judge.specs.Head.{head_with, head_of}
-use Rattle.header_judge.specs.Steps.{Known}
 use Rattle.header_judge.proofs.Heads.{head_known}
-use Rattle.receiver.specs.Calls.{most_kept, held_in, rules_at, waiting_of, usable}
+use Rattle.receiver.specs.Lookups.{rules_of, SameRules}
+use Rattle.receiver.specs.Calls.{most_kept, held_in, waiting_of, usable}
 use Rattle.receiver.specs.Steps.{bytes_in}
 use Rattle.receiver.specs.declared.State.{State}
+use Rattle.receiver.specs.declared.lookup.Lookup.{Lookup}
 use Rattle.receiver.proofs.Kept.{kept_front}
 use Rattle.receiver.proofs.Moves.{held_length, held_head}
 use Rattle.receiver.proofs.Bounds.{InRange, bounds_range, usable_bounds, usable_waits}
 use Rattle.receiver.proofs.Ends.{last_none, last_one}
 use Rattle.receiver.proofs.last.last.Goals as goal
 
-module _ (state : State) (columns kept : List ℕ) (good : usable state columns kept ≡ true) (long : length kept ≡ most_kept) where
-  ranges : InRange state
-  ranges = bounds_range state (usable_bounds state columns kept good)
+ranges : (state : State) (columns kept : List ℕ) → usable state columns kept ≡ true → InRange state
+ranges state columns kept good = bounds_range state (usable_bounds state columns kept good)
 
-  -- the header that is judged is that of all bytes
-  here : (len word flags : ℕ) → len ≡ min (held_in state) most_kept → word ≡ word_of (take (held_in state) kept) → Known (rules_at state columns) word flags
-      → head_with (take len kept) word flags ≡ head_of (rules_at state columns) (take (held_in state) kept)
-  here len word flags n w f =
-      let read : take len kept ≡ take (held_in state) kept = ap (λ (k : ℕ). take k kept) n ∙ kept_front (held_in state) kept long in
-      head_known (rules_at state columns) (take len kept) word flags (w ∙ ap word_of (sym read)) f ∙ ap (head_of (rules_at state columns)) read
+-- the header that is judged is that of all bytes
+here : (l m : Lookup) (held len : ℕ) (kept : List ℕ) → length kept ≡ most_kept → len ≡ min held most_kept → SameRules m l → m.word ≡ word_of (take len kept)
+    → head_with (take len kept) m.word m.flags ≡ head_of (rules_of l) (take held kept)
+here l m held len kept long n same w =
+    head_known (rules_of m) (take len kept) m.word m.flags w m.known
+    ∙ rw (same.0, same.1) (ap (head_of (rules_of l)) (ap (λ (k : ℕ). take k kept) n ∙ kept_front held kept long))
 
-  waits : bytes_in (held_in state) (head_of (rules_at state columns) (take (held_in state) kept)) ≡ 0
-  waits = usable_waits state columns kept long good
-
-pub overflow_cast-rows : goal.overflow_cast-rows
-overflow_cast-rows c =
-    let q = ranges c.args.state c.args.rules.now c.args.kept.now c.requires.0 c.requires.1 in
+pub overflow_cast-from : goal.overflow_cast-from
+overflow_cast-from c =
+    let q = ranges c.args.state c.args.lookup.rules.now c.args.kept.now c.requires.0 in
     let rows = q.rows in
     let offset = q.offset in
     let taken = q.taken in
     omega arith
 
-pub overflow_sub-held : goal.overflow_sub-held
-overflow_sub-held c = (ranges c.args.state c.args.rules.now c.args.kept.now c.requires.0 c.requires.1).offset
+pub held-held-requires : goal.held-held-requires
+held-held-requires c = (ranges c.args.state c.args.lookup.rules.now c.args.kept.now c.requires.0).offset
 
 pub returns-then-held-eq0 : goal.returns-then-held-eq0
 returns-then-held-eq0 c =
     let a = c.args in
-    let rules = rules_at a.state a.rules.now in
-    let kept = a.kept.now in
-    let none : held_in a.state ≡ 0 = c.if-held-eq0.true in
+    let rules = rules_of a.lookup in
+    let none = sym c.held-held.ensures ∙ c.if-held-eq0.true in
     rw c.listing_at.ensures
-    (sym (last_none rules (waiting_of a.state kept) a.spans.now (held_length rules (held_in a.state) kept c.requires.1 ∙ none)))
-
-pub see_kept-seen-requires : goal.see_kept-seen-requires
-see_kept-seen-requires c = ((ranges c.args.state c.args.rules.now c.args.kept.now c.requires.0 c.requires.1).blocks, c.requires.1)
+    (sym (last_none rules (waiting_of a.state a.kept.now) a.spans.now (held_length rules (held_in a.state) a.kept.now c.requires.2 ∙ none)))
 
 pub at_head-requires : goal.at_head-requires
 at_head-requires c =
     let a = c.args in
-    let seen = c.see_kept-seen in
     let head = c.judge_with-head.ensures in
-    let q = ranges a.state a.rules.now a.kept.now c.requires.0 c.requires.1 in
-    let is =
-    here a.state a.rules.now a.kept.now c.requires.0 c.requires.1 c.least-len.result seen.result.word seen.result.flags
-    c.least-len.ensures seen.ensures.word_value.0 seen.ensures.word_value.1 in
+    let q = ranges a.state a.lookup.rules.now a.kept.now c.requires.0 in
+    let look = c.with_word-lookup in
+    let is = here a.lookup look.result c.held-held.result c.min.result a.kept.now c.requires.2 c.min.ensures look.ensures.0 (look.ensures.1 ∙ c.word_of.ensures) in
     let rows = q.rows in
     let offset = q.offset in
     let taken = q.taken in
-    let room = c.requires.2 in (
+    let room = c.requires.3 in (
       head.head_bounds,
-      ap (bytes_in (held_in a.state)) (head.value ∙ is) ∙ waits a.state a.rules.now a.kept.now c.requires.0 c.requires.1,
+      ap (bytes_in c.held-held.result) (head.value ∙ is) ∙ rw (c.held-held.ensures, c.requires.1) (usable_waits a.state a.lookup.rules.now a.kept.now c.requires.2 c.requires.0),
       omega arith,
       omega arith,
       omega arith,
@@ -79,17 +70,17 @@ at_head-requires c =
 pub returns : goal.returns
 returns c =
     let a = c.args in
-    let rules = rules_at a.state a.rules.now in
+    let rules = rules_of a.lookup in
     let kept = a.kept.now in
     let held = held_in a.state in
-    let seen = c.see_kept-seen in
-    let is =
-    here a.state a.rules.now kept c.requires.0 c.requires.1 c.least-len.result seen.result.word seen.result.flags
-    c.least-len.ensures seen.ensures.word_value.0 seen.ensures.word_value.1 in
-    let counted = held_length rules held kept c.requires.1 in
-    let head = held_head rules held kept c.requires.1 in
-    let room = c.requires.2 in
+    let look = c.with_word-lookup in
+    let is = here a.lookup look.result c.held-held.result c.min.result kept c.requires.2 c.min.ensures look.ensures.0 (look.ensures.1 ∙ c.word_of.ensures) in
+    let counted = held_length rules held kept c.requires.2 in
+    let head = held_head rules held kept c.requires.2 in
+    let waits = usable_waits a.state a.lookup.rules.now kept c.requires.2 c.requires.0 in
+    let holds = c.held-held.ensures in
+    let room = c.requires.3 in
     let ends =
     last_one rules (waiting_of a.state kept) a.spans.now (rw counted (omega arith))
-    (rw (counted, head) (waits a.state a.rules.now kept c.requires.0 c.requires.1)) (omega arith) in
-    c.at_head.ensures ∙ rw (c.judge_with-head.ensures.value, is) (sym (rw (counted, head) at ends))
+    (rw (counted, head, c.requires.1) waits) (omega arith) in
+    c.at_head.ensures ∙ rw (c.judge_with-head.ensures.value, is, holds) (sym (rw (counted, head) at ends))

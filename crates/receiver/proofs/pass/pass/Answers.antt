@@ -1,83 +1,48 @@
--- `pass` gives the rows of the records that are all in, and where they end.
--- At each place the part's header is that of the rest: no record of it is all in, or the pass goes on after one. Assumes nothing.
-use mathlib.Core.Path.{◌≡◌, sym, ap, ◌∙◌}
-use mathlib.Core.List.{List}
-use Prim.Native.Nat.{ℕ, ◌-◌, ◌*◌}
+-- `pass` gives the rows of the records that are all in, and how far the walk comes.
+-- No record of the rest is all in, or the walk goes on after one. Assumes nothing.
+use mathlib.Core.Path.{sym, ap, ◌∙◌}
 use native.Mathlib.Omega.{arith}
-use lib.ListN.{length, take, drop}
+use lib.ListN.{length, length-drop}
+use borrow.Author.Tests.{eqb-true}
 use Rattle.basics.proofs.Parts.{tail_part}
-use Rattle.rules.specs.Columns.{rules_in}
-use Rattle.header_judge.specs.Version.{word_of}
-use Rattle.header_judge.specs.Head.{head_with, head_of}
-use Rattle.header_judge.specs.Steps.{Known}
-use Rattle.header_judge.proofs.Heads.{head_known}
+use Rattle.receiver.specs.Lookups.{rules_of}
 use Rattle.receiver.specs.Steps.{bytes_in}
-use Rattle.receiver.proofs.Records.{Read, read_in}
-use Rattle.receiver.proofs.Passes.{from_start, from_end, from_none, from_record}
+use Rattle.receiver.proofs.Fronts.{front_head, same_then}
+use Rattle.receiver.proofs.Passes.{put_moves, pass_waits, pass_end, pass_put}
 use Rattle.receiver.proofs.pass.pass.Goals as goal
-
--- the header at a place, as it is read
-module _ (rules bytes : List ℕ) (at word flags : ℕ) (w : word ≡ word_of (take (length bytes - at) (drop at bytes))) (f : Known rules word flags) where
-  abbrev part : List ℕ
-  part = take (length bytes - at) (drop at bytes)
-
-  abbrev left : ℕ
-  left = length bytes - at
-
-  here : head_with part word flags ≡ head_of rules (drop at bytes)
-  here = head_known rules part word flags w f ∙ ap (head_of rules) (tail_part bytes at)
-
-  none_here : (declared : ℕ) → declared ≡ bytes_in left (head_with part word flags) → declared ≡ 0 → bytes_in left (head_of rules (drop at bytes)) ≡ 0
-  none_here declared d z = ap (bytes_in left) (sym here) ∙ sym d ∙ z
-
-  record_here : (declared : ℕ) → declared ≡ bytes_in left (head_with part word flags) → (declared ≡ 0 → ⊥)
-      → Read part word flags left declared (head_of rules (drop at bytes))
-  record_here declared d n = read_in part word flags left declared here d n
-
-pub loop-at-init : goal.loop-at-init
-loop-at-init c =
-    let a = c.args in
-    record {
-      flags = c.requires.known;
-      within = omega arith;
-      counted = omega arith;
-      ends = sym (from_start (rules_in a.rules.now (a.blocks * 8)) a.bytes.now a.base a.rows a.whole a.spans.now);
-    }
 
 pub returns-then-declared-eq0 : goal.returns-then-declared-eq0
 returns-then-declared-eq0 c =
-    let a = c.args in
-    let l = c.loop-at in
-    let rules = rules_in a.rules.now (a.blocks * 8) in
-    let none =
-    none_here rules a.bytes.now l.at c.word_of-word.result c.flags_of-known.result c.word_of-word.ensures c.flags_of-known.ensures
-    c.bytes_in-declared.result c.bytes_in-declared.ensures.value c.if-declared-eq0.true in
-    sym (l.invariant.ends ∙ from_none rules a.bytes.now a.base l.rows l.whole l.spans l.at none)
+    let l = c.loop-lookup in
+    let read = c.read-front in
+    let same = same_then read.result.lookup l.lookup c.args.lookup read.ensures.1 l.invariant.rules in
+    let here = front_head read.result l.rest.now c.args.lookup read.ensures.0 same in
+    let none = ap (bytes_in (length l.rest.now)) (sym here) ∙ sym c.bytes_in-declared.ensures.0 ∙ c.if-declared-eq0.true in
+    sym (l.invariant.ends ∙ pass_waits (rules_of c.args.lookup) l.rest.now l.moved l.spans none)
 
-pub loop-at-preserved : goal.loop-at-preserved
-loop-at-preserved c =
-    let a = c.args in
-    let l = c.loop-at in
-    let put = c.put_record-keeps.ensures in
-    let rules = rules_in a.rules.now (a.blocks * 8) in
-    let r =
-    record_here rules a.bytes.now l.at c.word_of-word.result c.flags_of-known.result c.word_of-word.ensures c.flags_of-known.ensures
-    c.bytes_in-declared.result c.bytes_in-declared.ensures.value c.if-declared-eq0.false in
-    let declares = r.declares in
-    let some = r.some in
-    let fits = r.fits in
+pub loop-lookup-preserved : goal.loop-lookup-preserved
+loop-lookup-preserved c =
+    let l = c.loop-lookup in
+    let read = c.read-front in
+    let declared = c.bytes_in-declared in
+    let put = c.put-moved in
+    let room = l.invariant.room in
+    let same = same_then read.result.lookup l.lookup c.args.lookup read.ensures.1 l.invariant.rules in
+    let here = front_head read.result l.rest.now c.args.lookup read.ensures.0 same in
+    let are = declared.ensures.0 ∙ ap (bytes_in (length l.rest.now)) here in
+    let written = rw here at put.ensures in
+    let moves = put_moves (length l.rest.now) _ l.moved l.spans declared.result (omega arith) are put.new.spans put.result written in
     record {
-      flags = c.flags_of-known.ensures;
-      within = omega arith;
-      counted = omega arith;
+      rules = same;
+      room = simp (tail_part, length-drop) (omega arith);
       ends =
           l.invariant.ends
-          ∙ from_record rules a.bytes.now a.base l.rows l.whole l.spans l.at _ r.is some fits
-          ∙ rw (← put.spans_after, ← put.value, ← declares);
+          ∙ pass_put (rules_of c.args.lookup) l.rest.now l.moved l.spans declared.result (omega arith) are put.new.spans put.result written
+          ∙ rw tail_part;
     }
 
 pub returns : goal.returns
 returns c =
-    let a = c.args in
-    let l = c.loop-at in
-    sym (l.invariant.ends ∙ from_end (rules_in a.rules.now (a.blocks * 8)) a.bytes.now a.base l.rows l.whole l.spans l.at c.loop-at-test.false)
+    let l = c.loop-lookup in
+    let end = eqb-true (length l.rest.now) 0 (sym c.is_empty.ensures ∙ c.loop-lookup-test.false) in
+    sym (l.invariant.ends ∙ pass_end (rules_of c.args.lookup) l.rest.now l.moved l.spans end)

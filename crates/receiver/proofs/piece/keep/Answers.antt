@@ -6,4 +6,4 @@ use Rattle.receiver.proofs.piece.keep.Goals as goal
 pub returns : goal.returns
 returns c =
     let a = c.args in
-    copied a.s.now a.kept.now c.copy.new.to a.at c.least-len.result c.requires.0 c.least-len.ensures c.copy.ensures
+    copied a.s.now a.kept.now c.copy.new.to a.at c.min-len.result c.requires.0 c.min-len.ensures c.copy.ensures

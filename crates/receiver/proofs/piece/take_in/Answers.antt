@@ -6,5 +6,5 @@ use Rattle.receiver.proofs.piece.take_in.Goals as goal
 pub returns-clause-kept_after : goal.returns-clause-kept_after
 returns-clause-kept_after c =
     let a = c.args in
-    taken_copy a.held a.kept.now a.piece.now c.requires c.least-len.result c.least-more.result c.least-len.ensures c.least-more.ensures
+    taken_copy a.held a.kept.now a.piece.now c.requires c.min-len.result c.min-more.result c.min-len.ensures c.min-more.ensures
     c.copy.new.to c.copy.ensures

@@ -1,0 +1,30 @@
+-- `put` writes the row of a record that is all in, and walks past it.
+-- The record's bytes being in, its header is there. Assumes nothing.
+use native.Mathlib.Omega.{arith}
+use Rattle.receiver.proofs.Fronts.{record_in, put_in}
+use Rattle.receiver.proofs.front.Front.put.Goals as goal
+
+pub summary_of-summary-requires : goal.summary_of-summary-requires
+summary_of-summary-requires c =
+    let a = c.args in
+    let all = record_in a.self a.left a.declared c.requires.all_in.0 c.requires.all_in.1 in
+    (all.declares, a.self.sized, rw a.self.sized all.sized)
+
+pub span_of-span-requires : goal.span_of-span-requires
+span_of-span-requires c =
+    let a = c.args in
+    let all = record_in a.self a.left a.declared c.requires.all_in.0 c.requires.all_in.1 in
+    let size = (a.self.measured (rw a.self.sized all.sized)).most in
+    (omega arith, rw (c.summary_of-summary.ensures, ← all.declares) c.requires.all_in.2, rw (c.summary_of-summary.ensures, ← a.self.sized) size)
+
+pub overflow_add-result-2 : goal.overflow_add-result-2
+overflow_add-result-2 c =
+    let a = c.args in
+    let fits = (record_in a.self a.left a.declared c.requires.all_in.0 c.requires.all_in.1).fits in
+    omega arith
+
+pub returns : goal.returns
+returns c =
+    let a = c.args in
+    rw (c.put.ensures, c.span_of-span.ensures, c.summary_of-summary.ensures)
+    (put_in a.self a.left a.declared c.requires.all_in.0 c.requires.all_in.1 a.from a.spans.now c.is_box.result c.is_box.ensures)
