@@ -62,7 +62,7 @@ pub enum Head {
     Record(Summary),
 }
 
-// What `size_of` gives in the place of a size: the type is bad.
+// What `size_of` gives in the place of a size, so that the walk has it as one number, which no size is: the type is bad.
 pub const NO_SIZE: usize = 0;
 
 // Or bytes are lacking.

@@ -13,7 +13,6 @@ ghost use Rattle.header_write.specs.Steps.{RoomForHeader, written};
 
 use header::{Stamp, Status};
 use header_judge::RecordSize;
-use header_judge::version::bit_of;
 use le::LittleEndian;
 
 // What every layout but types 0 and 1 has: the version word, the sizes and the fields that most share.
@@ -128,7 +127,7 @@ fn status_word(status: Status) -> u32
     requires { status.completion_status < 2147483648 }
     ensures { result ≡ status_word status }
 {
-    status.completion_status + bit_of(status.collection_complete) * 2147483648
+    status.completion_status + u32::from(status.collection_complete) * 2147483648
 }
 
 // A count and in bit 15 complete, in one halfword.
@@ -136,7 +135,7 @@ fn count_half(count: u16, collection_complete: bool) -> u16
     requires { count ≤ 127 }
     ensures { result ≡ count_half count collection_complete }
 {
-    count + (bit_of(collection_complete) as u16) * 32768
+    count + u16::from(collection_complete) * 32768
 }
 
 // The version word and the sizes: all that types 0 and 1 have.
