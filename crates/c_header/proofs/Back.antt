@@ -3,7 +3,7 @@
 use mathlib.Core.Path.{◌≡◌, refl, ap, ap₂, ◌∙◌}
 use mathlib.Core.Bool.{Bool, true, false, not, ◌&&◌, ◌||◌}
 use lib.Dec.{leb}
-use Rattle.std.specs.Prelude.{Some}
+use Rattle.std.specs.Prelude.{Some, option_map}
 use Rattle.std.specs.Int.{from_bool}
 use Rattle.header.specs.declared.Header.{Header}
 use Rattle.header.specs.declared.Status.{Status}
@@ -23,7 +23,7 @@ sound_out : (h : Header) (t : HeaderType) → sound (flat h (fields_of t)) ≡ t
 unfolding sound
 sound_out h t = rw (small h.version.cldic, small h.version.consumed) (by t)
   where
-    by : (t : HeaderType) → leb (fields_of t).layout 8 && (not (has_complete (fields_of t).layout) || leb (from_bool (fields_of t).status.collection_complete) 1) ≡ true
+    by : (t : HeaderType) → (not (has_complete (fields_of t).layout) || leb (from_bool (fields_of t).status.collection_complete) 1) ≡ true
     by Type0 = refl
     by Type1 = refl
     by (Type2 p) = refl
@@ -37,16 +37,16 @@ sound_out h t = rw (small h.version.cldic, small h.version.consumed) (by t)
 status_back : (s : Status) → record { completion_status = s.completion_status; collection_complete = yes (from_bool s.collection_complete) } ≡ s
 status_back s = ap (λ (c : Bool). record { completion_status = s.completion_status; collection_complete = c }) (yes_no_lem s.collection_complete)
 
-type_back : (h : Header) (t : HeaderType) → type_of (fields_in (flat h (fields_of t))) ≡ t
+type_back : (h : Header) (t : HeaderType) → type_of (fields_in (flat h (fields_of t))) ≡ Some t
 type_back h Type0 = refl
 type_back h Type1 = refl
 type_back h (Type2 p) = refl
-type_back h (Type3 p s) = ap (Type3 p) (status_back s)
+type_back h (Type3 p s) = ap (λ (s : Status). Some (Type3 p s)) (status_back s)
 type_back h (Type4 p w m) = refl
-type_back h (Type5 p s e) = ap (λ (s : Status). Type5 p s e) (status_back s)
-type_back h (Type6 p d k n c) = ap (Type6 p d k n) (yes_no_lem c)
-type_back h (Type0LegacyServer p d k s) = ap (Type0LegacyServer p d k) (status_back s)
-type_back h (Type0LegacyGpu p s) = ap (Type0LegacyGpu p) (status_back s)
+type_back h (Type5 p s e) = ap (λ (s : Status). Some (Type5 p s e)) (status_back s)
+type_back h (Type6 p d k n c) = ap (λ (c : Bool). Some (Type6 p d k n c)) (yes_no_lem c)
+type_back h (Type0LegacyServer p d k s) = ap (λ (s : Status). Some (Type0LegacyServer p d k s)) (status_back s)
+type_back h (Type0LegacyGpu p s) = ap (λ (s : Status). Some (Type0LegacyGpu p s)) (status_back s)
 
 -- the header whose version has these yes/no, with these fields
 abbrev rebuilt : Header → Bool → Bool → HeaderType → Header
@@ -65,12 +65,12 @@ rebuilt h consumed cldic t =
       completion_statuses = h.completion_statuses;
     }
 
-header_back : (h : Header) → header_in (header_out h) ≡ h
+header_back : (h : Header) → header_in (header_out h) ≡ Some h
 unfolding header_in header_out
 header_back h =
-    ap₂ (λ (consumed cldic : Bool). rebuilt h consumed cldic (type_of (fields_in (flat h (fields_of h.header_type))))) (yes_no_lem h.version.consumed) (yes_no_lem h.version.cldic)
-    ∙ ap (rebuilt h h.version.consumed h.version.cldic) (type_back h h.header_type)
+    ap₂ (λ (consumed cldic : Bool). option_map (rebuilt h consumed cldic) (type_of (fields_in (flat h (fields_of h.header_type))))) (yes_no_lem h.version.consumed) (yes_no_lem h.version.cldic)
+    ∙ ap (option_map (rebuilt h h.version.consumed h.version.cldic)) (type_back h h.header_type)
 
 pub taken_back : (h : Header) → taken_of (header_out h) ≡ Some h
 unfolding header_out
-taken_back h = rw (sound_out h h.header_type) (ap Some (header_back h))
+taken_back h = rw (sound_out h h.header_type) (header_back h)

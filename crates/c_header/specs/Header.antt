@@ -1,6 +1,6 @@
 -- A header in C's flat form (document 01, 'Record header'): each field of the version, the sizes and the status words as it is,
 -- and of the others those that the layout has, with zeros for the rest.
-use Rattle.std.specs.Prelude.{ℕ, Bool, false, cond, not, ◌&&◌, ◌||◌, List, [], ◌∷◌, Option, Some, None, eqb, leb, ltb, get_or}
+use Rattle.std.specs.Prelude.{ℕ, Bool, false, cond, not, ◌&&◌, ◌||◌, List, [], ◌∷◌, Option, None, option_map, slice_get, eqb, leb, ltb}
 use Rattle.std.specs.Int.{from_bool}
 use Rattle.header.specs.Layouts.{stamp}
 use Rattle.header.specs.declared.Header.{Header}
@@ -93,11 +93,9 @@ header_out h = flat h (fields_of h.header_type)
 abbrev pub has_complete : ℕ → Bool
 has_complete layout = eqb layout 3 || ltb 4 layout
 
--- the layout is one, and each yes/no that the header has is 1 or 0
+-- each yes/no that the header has is 1 or 0
 unfoldable pub sound : CHeader → Bool
-sound c =
-    leb c.layout 8
-    && (leb c.cldic 1 && (leb c.consumed 1 && (not (has_complete c.layout) || leb c.collection_complete 1)))
+sound c = leb c.cldic 1 && (leb c.consumed 1 && (not (has_complete c.layout) || leb c.collection_complete 1))
 
 abbrev pub fields_in : CHeader → Fields
 fields_in c =
@@ -129,8 +127,9 @@ types_from p s x =
     ∷ Type0LegacyGpu p s
     ∷ []
 
-abbrev pub type_of : Fields → HeaderType
-type_of f = get_or (types_from f.stamp f.status f.extras) f.layout Type0
+-- none, where the layout's number is that of no layout
+abbrev pub type_of : Fields → Option HeaderType
+type_of f = slice_get (types_from f.stamp f.status f.extras) f.layout
 
 abbrev pub header_from : CHeader → HeaderType → Header
 header_from c t =
@@ -148,9 +147,9 @@ header_from c t =
       completion_statuses = c.completion_statuses;
     }
 
-unfoldable pub header_in : CHeader → Header
-header_in c = header_from c (type_of (fields_in c))
+unfoldable pub header_in : CHeader → Option Header
+header_in c = option_map (header_from c) (type_of (fields_in c))
 
 -- none, where a value is not one that C may hand in
 abbrev pub taken_of : CHeader → Option Header
-taken_of c = cond (sound c) (Some (header_in c)) None
+taken_of c = cond (sound c) (header_in c) None

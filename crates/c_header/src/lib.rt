@@ -58,8 +58,6 @@ pub struct Fields {
     pub extras: Extras,
 }
 
-const LAST_LAYOUT: u8 = 8;
-
 fn no_stamp() -> Stamp
     ensures { result ≡ no_stamp }
 {
@@ -224,17 +222,15 @@ pub fn header_out(header: Header) -> CHeader
 fn has_complete(layout: u8) -> bool
     ensures { result ≡ has_complete layout }
 {
-    (layout == 3) | (4 < layout)
+    layout == 3 || 4 < layout
 }
 
-// Whether the layout is one, and each yes/no that the header has is 1 or 0.
+// Whether each yes/no that the header has is 1 or 0.
 #[tactic(auto, unfolding(crate::specs::Header::sound))]
 fn is_sound(c: CHeader) -> bool
     ensures { result ≡ sound c }
 {
-    (c.layout <= LAST_LAYOUT)
-        & ((c.cldic <= 1)
-            & ((c.consumed <= 1) & (!has_complete(c.layout) | (c.collection_complete <= 1))))
+    c.cldic <= 1 && c.consumed <= 1 && (!has_complete(c.layout) || c.collection_complete <= 1)
 }
 
 fn fields_in(c: CHeader) -> Fields
@@ -262,7 +258,8 @@ fn fields_in(c: CHeader) -> Fields
     }
 }
 
-fn type_of(fields: Fields) -> HeaderType
+// The header type, where the layout's number is that of one.
+fn type_of(fields: Fields) -> Option<HeaderType>
     ensures { result ≡ type_of fields }
 {
     let Fields {
@@ -271,7 +268,7 @@ fn type_of(fields: Fields) -> HeaderType
         status,
         extras,
     } = fields;
-    match layout {
+    let header_type = match layout {
         0 => HeaderType::Type0,
         1 => HeaderType::Type1,
         2 => HeaderType::Type2 { stamp },
@@ -300,8 +297,9 @@ fn type_of(fields: Fields) -> HeaderType
             status,
         },
         8 => HeaderType::Type0LegacyGpu { stamp, status },
-        _ => HeaderType::Type0,
-    }
+        _ => return None,
+    };
+    Some(header_type)
 }
 
 // A header from C. Fields that the layout lacks, and `reserved`, are not looked at.
@@ -312,6 +310,7 @@ pub fn header_in(c: CHeader) -> Option<Header>
     if !is_sound(c) {
         return None;
     }
+    let header_type = type_of(fields_in(c))?;
     let completion_statuses = c.completion_statuses;
     Some(Header {
         version: Version {
@@ -326,7 +325,7 @@ pub fn header_in(c: CHeader) -> Option<Header>
             record_size: c.record_size,
             extended_record_size: c.extended_record_size,
         },
-        header_type: type_of(fields_in(c)),
+        header_type,
         completion_statuses,
     })
 }

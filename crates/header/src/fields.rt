@@ -1,4 +1,6 @@
 // The fields of each layout, read where document 01 has them, and the status words.
+#![tactic(auto, unfolding(crate::specs::Header::numbers_of, layout::specs::Fields::read_all))]
+
 ghost use Rattle.std.specs.Prelude.{◌≡◌, ◌+◌, ◌*◌, ◌≤◌, length};
 ghost use Rattle.le.specs.Le.{le};
 ghost use Rattle.layout.specs.Fields.{read_all};
@@ -13,26 +15,15 @@ use header_judge::Layout;
 use header_judge::origin::server_die;
 use le::LittleEndian;
 
-fn stamp_of(s: &[u8]) -> Stamp
-    requires { 24 ≤ length s.now }
-    ensures { result ≡ stamp (le 8 s.now 8) (le 4 s.now 16) (le 4 s.now 20) }
+// The agent version and the reason lie elsewhere in a legacy layout.
+fn stamp_of(s: &[u8], agent_at: usize, reason_at: usize) -> Stamp
+    requires { (24 ≤ length s.now) × (agent_at ≤ 20) × (reason_at ≤ 20) }
+    ensures { result ≡ stamp (le 8 s.now 8) (le 4 s.now agent_at) (le 4 s.now reason_at) }
 {
     Stamp {
         timestamp: u64::read_le(s, 8),
-        agent_version: u32::read_le(s, 16),
-        reason: u32::read_le(s, 20),
-    }
-}
-
-// In a legacy layout they lie elsewhere.
-fn legacy_stamp_of(s: &[u8]) -> Stamp
-    requires { 24 ≤ length s.now }
-    ensures { result ≡ stamp (le 8 s.now 8) (le 4 s.now 20) (le 4 s.now 4) }
-{
-    Stamp {
-        timestamp: u64::read_le(s, 8),
-        agent_version: u32::read_le(s, 20),
-        reason: u32::read_le(s, 4),
+        agent_version: u32::read_le(s, agent_at),
+        reason: u32::read_le(s, reason_at),
     }
 }
 
@@ -51,7 +42,9 @@ fn type2(s: &[u8]) -> HeaderType
     requires { 24 ≤ length s.now }
     ensures { result ≡ type_from Two (numbers_of s.now Two) }
 {
-    HeaderType::Type2 { stamp: stamp_of(s) }
+    HeaderType::Type2 {
+        stamp: stamp_of(s, 16, 20),
+    }
 }
 
 fn type3(s: &[u8]) -> HeaderType
@@ -59,7 +52,7 @@ fn type3(s: &[u8]) -> HeaderType
     ensures { result ≡ type_from Three (numbers_of s.now Three) }
 {
     HeaderType::Type3 {
-        stamp: stamp_of(s),
+        stamp: stamp_of(s, 16, 20),
         status: status_at(s, 24),
     }
 }
@@ -69,7 +62,7 @@ fn type4(s: &[u8]) -> HeaderType
     ensures { result ≡ type_from Four (numbers_of s.now Four) }
 {
     HeaderType::Type4 {
-        stamp: stamp_of(s),
+        stamp: stamp_of(s, 16, 20),
         whoami: u32::read_le(s, 24),
         misc: u32::read_le(s, 28),
     }
@@ -80,7 +73,7 @@ fn type5(s: &[u8]) -> HeaderType
     ensures { result ≡ type_from Five (numbers_of s.now Five) }
 {
     HeaderType::Type5 {
-        stamp: stamp_of(s),
+        stamp: stamp_of(s, 16, 20),
         status: status_at(s, 24),
         error_status: u32::read_le(s, 28),
     }
@@ -92,7 +85,7 @@ fn type6(s: &[u8]) -> HeaderType
 {
     let half = u16::read_le(s, 26);
     HeaderType::Type6 {
-        stamp: stamp_of(s),
+        stamp: stamp_of(s, 16, 20),
         die_id: u8::read_le(s, 24),
         socket_id: u8::read_le(s, 25),
         completion_status_size: half % 128,
@@ -105,7 +98,7 @@ fn type0_legacy_server(s: &[u8]) -> HeaderType
     ensures { result ≡ type_from LegacyServer (numbers_of s.now LegacyServer) }
 {
     HeaderType::Type0LegacyServer {
-        stamp: legacy_stamp_of(s),
+        stamp: stamp_of(s, 20, 4),
         die_id: server_die(u32::read_le(s, 0) % 256),
         socket_id: u8::read_le(s, 24),
         status: status_at(s, 28),
@@ -117,7 +110,7 @@ fn type0_legacy_gpu(s: &[u8]) -> HeaderType
     ensures { result ≡ type_from LegacyGpu (numbers_of s.now LegacyGpu) }
 {
     HeaderType::Type0LegacyGpu {
-        stamp: legacy_stamp_of(s),
+        stamp: stamp_of(s, 20, 4),
         status: status_at(s, 28),
     }
 }
@@ -142,15 +135,14 @@ pub fn fields_of(s: &[u8], layout: Layout) -> HeaderType
 }
 
 // So many status words, and zeros.
+#[tactic(auto, using(crate::proofs::Statuses::words_more), unfolding(layout::specs::Fields::read_all))]
 fn words_of(s: &[u8], count: usize) -> [u32; 127]
     requires { (count ≤ 127) × (28 + 4 * count ≤ length s.now) }
     ensures { result ≡ padded (read_all (cells 28 4 count) s.now) }
 {
     let mut words = [0u32; 127];
-    let mut i: usize = 0;
-    while i < count {
+    for i in 0..count {
         words[i] = u32::read_le(s, 28 + 4 * i);
-        i = i + 1;
     }
     words
 }

@@ -170,6 +170,7 @@ pub fn judge(s: &[u8], rules: &[u32]) -> Result<Judged, Refusal>
 }
 
 // The header of a record whose word and flags are known and whose bytes are there.
+#[tactic(auto, using(header_judge::proofs::Sizes::size_found, header_judge::proofs::Sizes::size_there))]
 pub fn header_of(s: &[u8], word: u32, flags: u32) -> Header
     requires { Complete s.now word flags }
     ensures { result ≡ header_of s.now word flags }

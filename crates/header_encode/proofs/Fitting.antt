@@ -1,11 +1,11 @@
 -- Whether a header can be encoded, by its parts, and what follows where it can.
 -- By the parts of the conjunctions. Assumes nothing.
 use mathlib.Core.Path.{◌≡◌}
-use mathlib.Core.Bool.{Bool, true, false, ◌&&◌}
+use mathlib.Core.Bool.{Bool, true, ◌&&◌}
 use mathlib.Core.List.{List}
 use Prim.Native.Nat.{ℕ, ◌≤◌}
 use lib.Dec.{ltb}
-use borrow.Author.Tests.{ltb-true, eq-eqb, ne_eqb}
+use borrow.Author.Tests.{ltb-true, ne_eqb}
 use Rattle.basics.proofs.Bools.{both}
 use Rattle.header_judge.specs.Version.{InBits, no_word, end_mark, word_from}
 use Rattle.header_judge.specs.declared.version.Version.{Version}

@@ -41,8 +41,10 @@ impl From<Refusal> for u32 {
 fn version_fits(version: Version) -> bool
     ensures { result ≡ version_fits version }
 {
-    (version.revision < 256)
-        & ((version.header_type < 16) & ((version.product_id < 4096) & (version.record_type < 64)))
+    version.revision < 256
+        && version.header_type < 16
+        && version.product_id < 4096
+        && version.record_type < 64
 }
 
 // The layout of a header's fields.
@@ -73,20 +75,19 @@ fn fields_fit(header_type: HeaderType, revision: u32, extended: u16) -> bool
     ensures { result ≡ fields_fit header_type revision extended }
 {
     match header_type {
-        HeaderType::Type0 => true,
-        HeaderType::Type1 => true,
-        HeaderType::Type2 { .. } => true,
-        HeaderType::Type3 { status, .. } => status_fits(status),
-        HeaderType::Type4 { .. } => true,
-        HeaderType::Type5 { status, .. } => status_fits(status),
+        HeaderType::Type0
+        | HeaderType::Type1
+        | HeaderType::Type2 { .. }
+        | HeaderType::Type4 { .. } => true,
+        HeaderType::Type3 { status, .. } | HeaderType::Type5 { status, .. } => status_fits(status),
         HeaderType::Type6 {
             completion_status_size,
             ..
         } => completion_status_size <= MOST_STATUSES,
         HeaderType::Type0LegacyServer { die_id, status, .. } => {
-            status_fits(status) & ((extended == 0) & (die_id == server_die(revision)))
+            status_fits(status) && extended == 0 && die_id == server_die(revision)
         }
-        HeaderType::Type0LegacyGpu { status, .. } => status_fits(status) & (extended == 0),
+        HeaderType::Type0LegacyGpu { status, .. } => status_fits(status) && extended == 0,
     }
 }
 

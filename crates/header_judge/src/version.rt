@@ -24,7 +24,7 @@ pub enum Ending {
     FewBytes,
 }
 
-// What stands for a word where the records have ended.
+// What stands for a word where the records have ended: 0, which is no word of a record, so that the walk has a word as one number.
 pub const NO_WORD: u32 = 0;
 
 // The word that marks the end of the records, beside 0.
@@ -100,11 +100,11 @@ impl Version {
         ensures { result ≡ word_from self }
     {
         self.revision
-            + (self.header_type as u32) * 256
+            + u32::from(self.header_type) * 256
             + self.product_id * 4096
-            + (self.record_type as u32) * 16777216
-            + bit_of(self.cldic) * 1073741824
-            + bit_of(self.consumed) * 2147483648
+            + u32::from(self.record_type) * 16777216
+            + u32::from(self.cldic) * 1073741824
+            + u32::from(self.consumed) * 2147483648
     }
 }
 
@@ -112,5 +112,5 @@ impl Version {
 pub fn bit_of(b: bool) -> u32
     ensures { (result ≡ bit b) × (result ≤ 1) }
 {
-    if b { 1 } else { 0 }
+    u32::from(b)
 }

@@ -1,13 +1,11 @@
 -- What holds of every layout: which one a header's fields are of, what a count decides, which ones are legacy, and that a number tells it.
 -- Layout for layout. Assumes nothing.
-use mathlib.Core.Path.{◌≡◌, refl, sym, ap, ◌∙◌}
+use mathlib.Core.Path.{◌≡◌, refl, ap}
 use mathlib.Core.Bool.{Bool, true, false, cond, ◌||◌}
-use mathlib.Core.List.{List, [], ◌∷◌}
+use mathlib.Core.List.{List}
 use Prim.Native.Nat.{ℕ, zero, suc, ◌≤◌, ◌<◌}
 use native.Mathlib.Omega.{arith}
-use lib.Dec.{eqb}
-use lib.ListN.{length, get_or}
-use borrow.Author.Tests.{eqb-true}
+use lib.ListN.{length}
 use Rattle.header_judge.specs.contracts.Layout as layout
 use denote.Enum.Declared.{declared}
 use denote.Enum.Bare.{same_true, true_same}

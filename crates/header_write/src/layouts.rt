@@ -1,4 +1,6 @@
 // Each layout of a record header written into an output, field after field, as its table has them.
+#![tactic(auto, unfolding(layout::specs::Fields::write_all))]
+
 ghost use Rattle.std.specs.Prelude.{◌≡◌, [], ◌∷◌, ◌+◌, ◌*◌, ◌≤◌, ◌<◌, length};
 ghost use Rattle.le.specs.Le.{put};
 ghost use Rattle.layout.specs.Fields.{write_all};
@@ -11,15 +13,121 @@ ghost use Rattle.header_write.specs.Steps.{RoomForHeader, written};
 
 use header::{Stamp, Status};
 use header_judge::RecordSize;
-use header_judge::version::bit_of;
 use le::LittleEndian;
+
+// What every layout but types 0 and 1 has: the version word, the sizes and the fields that most share.
+#[derive(Clone, Copy, Debug, PartialEq, Eq)]
+pub struct Opening {
+    pub word: u32,
+    pub size: RecordSize,
+    pub stamp: Stamp,
+}
+
+impl Opening {
+    pub fn put_type2(self, out: &mut [u8])
+        requires { RoomForHeader (Type2 self.stamp) out.old }
+        ensures { out.new ≡ written self.word self.size (Type2 self.stamp) [] out.old }
+    {
+        put_sized(out, self.word, self.size);
+        self.stamp.timestamp.write_le(out, 8);
+        self.stamp.agent_version.write_le(out, 16);
+        self.stamp.reason.write_le(out, 20);
+    }
+
+    pub fn put_type3(self, out: &mut [u8], status: Status)
+        requires { RoomForHeader (Type3 self.stamp status) out.old }
+        ensures { out.new ≡ written self.word self.size (Type3 self.stamp status) [] out.old }
+    {
+        self.put_type2(out);
+        status_word(status).write_le(out, 24);
+    }
+
+    pub fn put_type4(self, out: &mut [u8], whoami: u32, misc: u32)
+        requires { RoomForHeader (Type4 self.stamp whoami misc) out.old }
+        ensures { out.new ≡ written self.word self.size (Type4 self.stamp whoami misc) [] out.old }
+    {
+        self.put_type2(out);
+        whoami.write_le(out, 24);
+        misc.write_le(out, 28);
+    }
+
+    pub fn put_type5(self, out: &mut [u8], status: Status, error_status: u32)
+        requires { RoomForHeader (Type5 self.stamp status error_status) out.old }
+        ensures { out.new ≡ written self.word self.size (Type5 self.stamp status error_status) [] out.old }
+    {
+        self.put_type3(out, status);
+        error_status.write_le(out, 28);
+    }
+
+    // Type 6 before its status words.
+    fn put_counted(self, out: &mut [u8], die_id: u8, socket_id: u8, half: u16)
+        requires { 28 ≤ length out.old }
+        ensures { out.new ≡ write_all (table_of Six 0) (stamped_numbers self.word self.size self.stamp (die_id ∷ socket_id ∷ half ∷ [])) out.old }
+    {
+        self.put_type2(out);
+        die_id.write_le(out, 24);
+        socket_id.write_le(out, 25);
+        half.write_le(out, 26);
+    }
+
+    #[tactic(auto, using(layout::proofs::Runs::write_first), unfolding(layout::specs::Fields::write_all))]
+    pub fn put_type6(
+        self,
+        out: &mut [u8],
+        die_id: u8,
+        socket_id: u8,
+        count: u16,
+        complete: bool,
+        words: [u32; 127],
+    )
+        requires { RoomForHeader (Type6 self.stamp die_id socket_id count complete) out.old }
+        ensures { out.new ≡ written self.word self.size (Type6 self.stamp die_id socket_id count complete) words out.old }
+    {
+        let half = count_half(count, complete);
+        self.put_counted(out, die_id, socket_id, half);
+        put_words(out, words, count as usize);
+    }
+
+    // What both legacy layouts begin with.
+    fn put_legacy(self, out: &mut [u8])
+        requires { 24 ≤ length out.old }
+        ensures { out.new ≡ write_all (legacy_stamped []) (legacy_numbers self.word self.size self.stamp []) out.old }
+    {
+        self.word.write_le(out, 0);
+        self.stamp.reason.write_le(out, 4);
+        self.stamp.timestamp.write_le(out, 8);
+        self.size.record_size.write_le(out, 16);
+        0u16.write_le(out, 18);
+        self.stamp.agent_version.write_le(out, 20);
+    }
+
+    // The die of a legacy server stands in its revision.
+    pub fn put_type0_legacy_server(self, out: &mut [u8], die_id: u8, socket_id: u8, status: Status)
+        requires { RoomForHeader (Type0LegacyServer self.stamp die_id socket_id status) out.old }
+        ensures { out.new ≡ written self.word self.size (Type0LegacyServer self.stamp die_id socket_id status) [] out.old }
+    {
+        self.put_legacy(out);
+        socket_id.write_le(out, 24);
+        put_unread(out);
+        status_word(status).write_le(out, 28);
+    }
+
+    pub fn put_type0_legacy_gpu(self, out: &mut [u8], status: Status)
+        requires { RoomForHeader (Type0LegacyGpu self.stamp status) out.old }
+        ensures { out.new ≡ written self.word self.size (Type0LegacyGpu self.stamp status) [] out.old }
+    {
+        self.put_legacy(out);
+        0u32.write_le(out, 24);
+        status_word(status).write_le(out, 28);
+    }
+}
 
 // A status and above it complete, in one word.
 fn status_word(status: Status) -> u32
     requires { status.completion_status < 2147483648 }
     ensures { result ≡ status_word status }
 {
-    status.completion_status + bit_of(status.collection_complete) * 2147483648
+    status.completion_status + u32::from(status.collection_complete) * 2147483648
 }
 
 // A count and in bit 15 complete, in one halfword.
@@ -27,7 +135,7 @@ fn count_half(count: u16, collection_complete: bool) -> u16
     requires { count ≤ 127 }
     ensures { result ≡ count_half count collection_complete }
 {
-    count + (bit_of(collection_complete) as u16) * 32768
+    count + u16::from(collection_complete) * 32768
 }
 
 // The version word and the sizes: all that types 0 and 1 have.
@@ -40,109 +148,15 @@ pub fn put_sized(out: &mut [u8], word: u32, size: RecordSize)
     size.extended_record_size.write_le(out, 6);
 }
 
-pub fn put_type2(out: &mut [u8], word: u32, size: RecordSize, stamp: Stamp)
-    requires { RoomForHeader (Type2 stamp) out.old }
-    ensures { out.new ≡ written word size (Type2 stamp) [] out.old }
-{
-    put_sized(out, word, size);
-    stamp.timestamp.write_le(out, 8);
-    stamp.agent_version.write_le(out, 16);
-    stamp.reason.write_le(out, 20);
-}
-
-pub fn put_type3(out: &mut [u8], word: u32, size: RecordSize, stamp: Stamp, status: Status)
-    requires { RoomForHeader (Type3 stamp status) out.old }
-    ensures { out.new ≡ written word size (Type3 stamp status) [] out.old }
-{
-    put_type2(out, word, size, stamp);
-    status_word(status).write_le(out, 24);
-}
-
-pub fn put_type4(out: &mut [u8], word: u32, size: RecordSize, stamp: Stamp, whoami: u32, misc: u32)
-    requires { RoomForHeader (Type4 stamp whoami misc) out.old }
-    ensures { out.new ≡ written word size (Type4 stamp whoami misc) [] out.old }
-{
-    put_type2(out, word, size, stamp);
-    whoami.write_le(out, 24);
-    misc.write_le(out, 28);
-}
-
-pub fn put_type5(
-    out: &mut [u8],
-    word: u32,
-    size: RecordSize,
-    stamp: Stamp,
-    status: Status,
-    error_status: u32,
-)
-    requires { RoomForHeader (Type5 stamp status error_status) out.old }
-    ensures { out.new ≡ written word size (Type5 stamp status error_status) [] out.old }
-{
-    put_type3(out, word, size, stamp, status);
-    error_status.write_le(out, 28);
-}
-
 // The first status words.
+#[tactic(auto, unfolding(layout::specs::Runs::put_run))]
 fn put_words(out: &mut [u8], words: [u32; 127], count: usize)
     requires { (count ≤ 127) × (28 + 4 * count ≤ length out.old) }
     ensures { out.new ≡ put_run 4 count out.old 28 words }
 {
-    let mut i: usize = 0;
-    while i < count {
+    for i in 0..count {
         words[i].write_le(out, 28 + 4 * i);
-        i = i + 1;
     }
-}
-
-// Type 6 before its status words.
-fn put_counted(
-    out: &mut [u8],
-    word: u32,
-    size: RecordSize,
-    stamp: Stamp,
-    die_id: u8,
-    socket_id: u8,
-    half: u16,
-)
-    requires { 28 ≤ length out.old }
-    ensures { out.new ≡ write_all (table_of Six 0) (stamped_numbers word size stamp (die_id ∷ socket_id ∷ half ∷ [])) out.old }
-{
-    put_type2(out, word, size, stamp);
-    die_id.write_le(out, 24);
-    socket_id.write_le(out, 25);
-    half.write_le(out, 26);
-}
-
-pub fn put_type6(
-    out: &mut [u8],
-    word: u32,
-    size: RecordSize,
-    stamp: Stamp,
-    die_id: u8,
-    socket_id: u8,
-    count: u16,
-    complete: bool,
-    words: [u32; 127],
-)
-    requires { RoomForHeader (Type6 stamp die_id socket_id count complete) out.old }
-    ensures { out.new ≡ written word size (Type6 stamp die_id socket_id count complete) words out.old }
-{
-    let half = count_half(count, complete);
-    put_counted(out, word, size, stamp, die_id, socket_id, half);
-    put_words(out, words, count as usize);
-}
-
-// What both legacy layouts begin with.
-fn put_legacy(out: &mut [u8], word: u32, size: RecordSize, stamp: Stamp)
-    requires { 24 ≤ length out.old }
-    ensures { out.new ≡ write_all (legacy_stamped []) (legacy_numbers word size stamp []) out.old }
-{
-    word.write_le(out, 0);
-    stamp.reason.write_le(out, 4);
-    stamp.timestamp.write_le(out, 8);
-    size.record_size.write_le(out, 16);
-    0u16.write_le(out, 18);
-    stamp.agent_version.write_le(out, 20);
 }
 
 // The three unread bytes of a legacy server header.
@@ -152,38 +166,4 @@ fn put_unread(out: &mut [u8])
 {
     0u8.write_le(out, 25);
     0u16.write_le(out, 26);
-}
-
-// The die of a legacy server stands in its revision.
-pub fn put_type0_legacy_server(
-    out: &mut [u8],
-    word: u32,
-    size: RecordSize,
-    stamp: Stamp,
-    die_id: u8,
-    socket_id: u8,
-    status: Status,
-)
-    requires { RoomForHeader (Type0LegacyServer stamp die_id socket_id status) out.old }
-    ensures { out.new ≡ written word size (Type0LegacyServer stamp die_id socket_id status) [] out.old }
-{
-    put_legacy(out, word, size, stamp);
-    socket_id.write_le(out, 24);
-    put_unread(out);
-    status_word(status).write_le(out, 28);
-}
-
-pub fn put_type0_legacy_gpu(
-    out: &mut [u8],
-    word: u32,
-    size: RecordSize,
-    stamp: Stamp,
-    status: Status,
-)
-    requires { RoomForHeader (Type0LegacyGpu stamp status) out.old }
-    ensures { out.new ≡ written word size (Type0LegacyGpu stamp status) [] out.old }
-{
-    put_legacy(out, word, size, stamp);
-    0u32.write_le(out, 24);
-    status_word(status).write_le(out, 28);
 }

@@ -8,54 +8,57 @@ ghost use Rattle.header_write.specs.Steps.{Writable, written};
 pub mod layouts;
 
 use header::{Header, HeaderType};
-use layouts::{
-    put_sized, put_type0_legacy_gpu, put_type0_legacy_server, put_type2, put_type3, put_type4,
-    put_type5, put_type6,
-};
+use layouts::{Opening, put_sized};
 
 pub fn put_header(out: &mut [u8], header: Header)
     requires { Writable header out.old }
     ensures { out.new ≡ written (word_from header.version) header.size header.header_type header.completion_statuses out.old }
 {
-    let version = header.version;
-    let z = header.size;
-    let words = header.completion_statuses;
-    let header_type = header.header_type;
+    let Header {
+        version,
+        size,
+        header_type,
+        completion_statuses,
+    } = header;
     let word = version.as_u32();
     match header_type {
-        HeaderType::Type0 => put_sized(out, word, z),
-        HeaderType::Type1 => put_sized(out, word, z),
-        HeaderType::Type2 { stamp: p } => put_type2(out, word, z, p),
-        HeaderType::Type3 {
-            stamp: p,
-            status: s,
-        } => put_type3(out, word, z, p, s),
+        HeaderType::Type0 | HeaderType::Type1 => put_sized(out, word, size),
+        HeaderType::Type2 { stamp } => Opening { word, size, stamp }.put_type2(out),
+        HeaderType::Type3 { stamp, status } => {
+            Opening { word, size, stamp }.put_type3(out, status)
+        }
         HeaderType::Type4 {
-            stamp: p,
-            whoami: w,
-            misc: m,
-        } => put_type4(out, word, z, p, w, m),
+            stamp,
+            whoami,
+            misc,
+        } => Opening { word, size, stamp }.put_type4(out, whoami, misc),
         HeaderType::Type5 {
-            stamp: p,
-            status: s,
-            error_status: e,
-        } => put_type5(out, word, z, p, s, e),
+            stamp,
+            status,
+            error_status,
+        } => Opening { word, size, stamp }.put_type5(out, status, error_status),
         HeaderType::Type6 {
-            stamp: p,
-            die_id: d,
-            socket_id: k,
-            completion_status_size: n,
-            collection_complete: c,
-        } => put_type6(out, word, z, p, d, k, n, c, words),
+            stamp,
+            die_id,
+            socket_id,
+            completion_status_size,
+            collection_complete,
+        } => Opening { word, size, stamp }.put_type6(
+            out,
+            die_id,
+            socket_id,
+            completion_status_size,
+            collection_complete,
+            completion_statuses,
+        ),
         HeaderType::Type0LegacyServer {
-            stamp: p,
-            die_id: d,
-            socket_id: k,
-            status: s,
-        } => put_type0_legacy_server(out, word, z, p, d, k, s),
-        HeaderType::Type0LegacyGpu {
-            stamp: p,
-            status: s,
-        } => { put_type0_legacy_gpu(out, word, z, p, s) }
+            stamp,
+            die_id,
+            socket_id,
+            status,
+        } => Opening { word, size, stamp }.put_type0_legacy_server(out, die_id, socket_id, status),
+        HeaderType::Type0LegacyGpu { stamp, status } => {
+            Opening { word, size, stamp }.put_type0_legacy_gpu(out, status)
+        }
     }
 }

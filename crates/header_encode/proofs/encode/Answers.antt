@@ -1,17 +1,12 @@
 -- `encode` writes a header's bytes, or refuses and writes nothing.
 -- What is written of a header that can be encoded is the table's bytes. Assumes nothing.
 use mathlib.Core.Path.{◌≡◌, sym, ◌∙◌}
-use mathlib.Core.Bool.{true}
-use mathlib.Core.List.{List, ◌++◌}
-use Prim.Native.Nat.{ℕ, ◌≤◌}
+use Prim.Native.Nat.{◌≤◌}
 use native.Mathlib.Omega.{arith}
-use lib.ListN.{length, drop}
+use lib.ListN.{length}
 use borrow.Author.Tests.{le-leb}
-use Rattle.rules.specs.Rules.{valid_of}
 use Rattle.header.specs.Access.{header_size}
-use Rattle.header.specs.declared.Header.{Header}
-use Rattle.header_write.specs.Values.{header_bytes}
-use Rattle.header_encode.specs.Encode.{encodable, encoded_of}
+use Rattle.header_encode.specs.Encode.{encoded_of}
 use Rattle.header_encode.proofs.Fitting.{in_bits, can_version, can_fit, can_count}
 use Rattle.header_encode.proofs.Tables.{written_bytes}
 use Rattle.header_encode.proofs.encode.Goals as goal

@@ -1,9 +1,0 @@
--- `type2` gives the fields of type 2.
--- Each is read where the table has it. Assumes nothing.
-use Rattle.layout.specs.Fields.{read_all}
-use Rattle.header.specs.Header.{numbers_of}
-use Rattle.header.proofs.fields.type2.Goals as goal
-
-pub returns : goal.returns
-unfolding numbers_of read_all
-returns c = cc

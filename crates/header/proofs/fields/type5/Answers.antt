@@ -1,9 +1,0 @@
--- `type5` gives the fields of type 5.
--- Each is read where the table has it. Assumes nothing.
-use Rattle.layout.specs.Fields.{read_all}
-use Rattle.header.specs.Header.{numbers_of}
-use Rattle.header.proofs.fields.type5.Goals as goal
-
-pub returns : goal.returns
-unfolding numbers_of read_all
-returns c = cc

@@ -1,8 +1,0 @@
--- `put_counted` writes type 6 before its status words.
--- Each field is written where the table has it, in the order of the table. Assumes nothing.
-use Rattle.layout.specs.Fields.{write_all}
-use Rattle.header_write.proofs.layouts.put_counted.Goals as goal
-
-pub returns : goal.returns
-unfolding write_all
-returns c = cc

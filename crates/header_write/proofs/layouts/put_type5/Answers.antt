@@ -1,8 +1,0 @@
--- `put_type5` writes type 5.
--- Each field is written where the table has it, in the order of the table. Assumes nothing.
-use Rattle.layout.specs.Fields.{write_all}
-use Rattle.header_write.proofs.layouts.put_type5.Goals as goal
-
-pub returns : goal.returns
-unfolding write_all
-returns c = cc
