@@ -1,4 +1,4 @@
--- The rows of a table from a place on, as the code meets them: a whole row and the rows after it, or none.
+-- The rows of a table as the code meets them: from a place on, a whole row and the rows after it, or none; and cut into arrays of three numbers.
 -- By taking the first numbers off the list. Assumes nothing.
 use mathlib.Core.Path.{◌≡◌, refl, ap, sym}
 use mathlib.Core.List.{List, [], ◌∷◌, map}

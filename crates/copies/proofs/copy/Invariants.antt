@@ -1,4 +1,5 @@
--- As far as the loop has come, the items are those that are copied. Assumes nothing.
+-- `copy` copies each item to its place.
+-- The loop's invariant: as far as it has come, the items are those that are copied. Assumes nothing.
 use Rattle.std.proofs.Common.{◌≡◌, take}
 use Rattle.copies.proofs.copy.Given as goal
 

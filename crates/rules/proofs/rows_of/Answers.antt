@@ -1,3 +1,5 @@
+-- `rows_of` gives the whole rows of a table.
+-- What std cuts a slice into are the definition's rows. Assumes nothing.
 use Rattle.std.proofs.Common.{◌∙◌, ap, refl, map}
 use Rattle.rules.specs.Rules.{row}
 use Rattle.rules.proofs.Rows.{chunks_rows}
