@@ -80,6 +80,7 @@ impl From<Answer> for u32 {
     }
 }
 
+// The same by a name.
 pub fn number_of(answer: Answer) -> u32
     ensures { (result ≡ number_of answer) × (result < 9) }
 {

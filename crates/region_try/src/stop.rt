@@ -50,6 +50,7 @@ impl From<Ending> for Stop {
     }
 }
 
+// The same by a name.
 pub fn stop_ended(ending: Ending) -> Stop
     ensures { result ≡ stop_ended ending }
 {
