@@ -29,7 +29,7 @@ fru_id_bit = 1
 abbrev pub fru_text_bit : ℕ
 fru_text_bit = 2
 
--- what some bytes tell
+-- what some bytes tell; a field whose bit is not set is absent
 unfoldable pub descriptor_of : List ℕ → CperSectionDescriptor
 descriptor_of bs =
     let bits = le 1 bs 10 in

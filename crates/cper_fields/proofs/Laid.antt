@@ -14,10 +14,6 @@ use Rattle.layout.proofs.Digits.{length_digits, put-digits}
 use Rattle.cper_fields.specs.Fields.{over, present}
 use Rattle.cper_fields.proofs.Lists.{drop_past}
 
--- what a fixed size holds, so does all that is as long
-pub within : (n size m : ℕ) → T (leb n size) → size ≤ m → n ≤ m
-within n size m h room = let fits = lit≤ {m = n} {n = size} h in omega arith
-
 -- `out` is `base`, of at least `size` bytes, with `front` in the place of its first `at`
 pub record Laid (size at : ℕ) (out : List ℕ) : Type 0 where
   pub base : List ℕ
@@ -30,11 +26,6 @@ abbrev pub laid_none : (size : ℕ) (base : List ℕ) → size ≤ length base �
 laid_none size base h = record { base = base; front = []; room = h; is = refl; long = refl }
 
 module _ {size at : ℕ} {out : List ℕ} (laid : Laid size at out) where
-  pub length-laid : T (leb at size) → length out ≡ length laid.base
-  length-laid h =
-      let fits = lit≤ {m = at} {n = size} h in
-      ap length laid.is ∙ length-append laid.front (drop at laid.base) ∙ omega (arith, laid.long, laid.room, length-drop at laid.base)
-
   -- there is room for a field
   pub room_for : (n : ℕ) → T (leb (at + n) size) → at + n ≤ length out
   room_for n h =

@@ -40,7 +40,7 @@ timestamp_bit = 2
 abbrev pub partition_bit : ℕ
 partition_bit = 4
 
--- what some bytes tell
+-- what some bytes tell; a field whose bit is not set is absent
 unfoldable pub header_of : List ℕ → CperHeader
 header_of bs =
     let bits = le 4 bs 16 in

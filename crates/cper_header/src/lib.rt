@@ -2,7 +2,7 @@
 #![tactic(auto)]
 
 ghost use Rattle.std.specs.Prelude.{◌≡◌, ◌++◌, ◌+◌, ◌≤◌, length, drop};
-ghost use Rattle.cper_header.specs.Record.{header_size, signature, is_cper, count_of};
+ghost use Rattle.cper_header.specs.Record.{header_size, is_cper, count_of};
 ghost use Rattle.cper_header.specs.Header.{timestamp_of, timestamp_bytes, header_of, normal_header, header_bytes};
 
 use basics::has_bit;
@@ -61,14 +61,6 @@ pub fn is_cper(s: &[u8]) -> bool
         return false;
     }
     s.starts_with(&SIGNATURE) && u32::read_le(s, SIGNATURE_END_AT) == SIGNATURE_END
-}
-
-// Writes the signature to the output's first four bytes.
-fn sign(out: &mut [u8])
-    requires { 4 ≤ length out.old }
-    ensures { out.new ≡ signature ++ drop 4 out.old }
-{
-    out[..4].copy_from_slice(&SIGNATURE);
 }
 
 // The number of section descriptors that a header tells.
@@ -185,7 +177,7 @@ impl CperHeader {
         requires { header_size ≤ length out.old }
         ensures { out.new ≡ header_bytes self ++ drop header_size out.old }
     {
-        sign(out);
+        put_bytes(out, 0, &SIGNATURE);
         self.revision.write_le(out, REVISION_AT);
         SIGNATURE_END.write_le(out, SIGNATURE_END_AT);
         self.section_count.write_le(out, SECTION_COUNT_AT);
