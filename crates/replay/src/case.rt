@@ -52,6 +52,7 @@ struct Parts<'a> {
     left: &'a [u8],
 }
 
+// A number of 4 bytes in the head, by its index.
 fn size_in(head: &[u8], i: usize) -> usize {
     nth_or_zero::<u32>(head, i) as usize
 }

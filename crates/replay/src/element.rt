@@ -1,7 +1,7 @@
 // The elements of lent buffers: numbers that lie in bytes one after the other, least byte first.
 ghost use Rattle.std.specs.Prelude.{◌≤◌, length};
 
-pub trait Element: Copy + PartialEq + Drop {
+pub trait Element: Copy + PartialEq {
     // What lent buffers hold before a call.
     const UNTOUCHED: Self;
 
