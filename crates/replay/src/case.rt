@@ -13,10 +13,7 @@
 //         buffer is as it was
 //     32  what the call tells: six numbers of 8 bytes, its answer, the numbers that come with it in their order, and then zeros
 //     80  the rules, the sixteen bytes of identifier that the listing of a CPER asks for, the stored input, the bytes left
-ghost use Rattle.std.specs.Prelude.{◌≤◌, length};
-ghost use Rattle.io.specs.Counts.{IsPrefixLen};
-
-use le::LittleEndian;
+use crate::element::{Element, nth_or_zero, part, within};
 
 pub const MOST_CASE: usize = 262144;
 
@@ -24,195 +21,111 @@ pub const MOST_RULES: usize = 256;
 
 pub const MOST_INPUT: usize = 1048577;
 
+const HEAD: usize = 80;
+
 const NUMBER: usize = 8;
 
 const TOLD: usize = 32;
 
-const HEAD: usize = 80;
-
 pub const ID_BYTES: usize = 16;
 
+// A case with its rules and its whole input. `lengths` are the bytes of `number`.
 #[derive(Clone, Copy)]
-pub struct Case {
-    pub source: u32,
-    pub rules: usize,
-    pub id: usize,
+pub struct Case<'a> {
     pub number: u64,
+    pub lengths: &'a [u8],
     pub room: usize,
-    pub length: usize,
-    pub stored: usize,
-    pub left: usize,
+    pub told: &'a [u8],
+    pub rules: &'a [u32],
+    pub id: &'a [u8],
+    pub input: &'a [u8],
+    pub left: &'a [u8],
 }
 
-// The number at a place, 0 where the bytes end before it.
-pub fn u32_in(bytes: &[u8], at: usize) -> u32 {
-    if bytes.len() < 4 {
-        return 0;
+// Where a case's parts lie: as long as it says, and within the limits.
+#[derive(Clone, Copy)]
+struct Parts<'a> {
+    head: &'a [u8],
+    rules: &'a [u8],
+    id: &'a [u8],
+    stored: &'a [u8],
+    left: &'a [u8],
+}
+
+// A number of 4 bytes in the head, by its index.
+fn size_in(head: &[u8], i: usize) -> usize {
+    nth_or_zero::<u32>(head, i) as usize
+}
+
+// Parts a case with so many bytes of identifier.
+fn parts_of(bytes: &[u8], id: usize) -> Option<Parts<'_>> {
+    let (head, body) = bytes.split_at_checked(HEAD)?;
+    let rules = size_in(head, 1);
+    if MOST_RULES < rules {
+        return None;
     }
-    if bytes.len() - 4 < at {
-        return 0;
+    let (rules, rest) = body.split_at_checked(4 * rules)?;
+    let (id, rest) = rest.split_at_checked(id)?;
+    let (stored, left) = rest.split_at_checked(size_in(head, 6))?;
+    let length = size_in(head, 5);
+    let is_whole = left.len() == size_in(head, 7);
+    let is_input = length <= MOST_INPUT && stored.len() <= length;
+    let is_filled = !stored.is_empty() || length == 0;
+    let parts = Parts {
+        head,
+        rules,
+        id,
+        stored,
+        left,
+    };
+    (is_whole && is_input && is_filled).then_some(parts)
+}
+
+// The numbers of a rule table at the start of a buffer.
+fn fill_rules<'a>(bytes: &[u8], rules: &'a mut [u32]) -> &'a [u32] {
+    for (i, rule) in rules.iter_mut().enumerate() {
+        *rule = nth_or_zero(bytes, i);
     }
-    u32::read_le(bytes, at)
+    let end = within(bytes.len() / 4, rules);
+    &rules[..end]
 }
 
-pub fn u64_in(bytes: &[u8], at: usize) -> u64 {
-    if bytes.len() < 8 {
-        return 0;
+// So many bytes at the start of a buffer: the stored bytes, and these again after them.
+fn fill_input<'a>(stored: &[u8], length: usize, input: &'a mut [u8]) -> &'a [u8] {
+    let end = within(length, input);
+    let whole = &mut input[..end];
+    for (byte, wanted) in whole.iter_mut().zip(stored.iter().cycle()) {
+        *byte = *wanted;
     }
-    if bytes.len() - 8 < at {
-        return 0;
+    whole
+}
+
+impl<'a> Case<'a> {
+    // The case that some bytes are, if they are one, with its rules and its input in two buffers.
+    pub fn read(
+        bytes: &'a [u8],
+        id: usize,
+        rules: &'a mut [u32; MOST_RULES],
+        input: &'a mut [u8; MOST_INPUT],
+    ) -> Option<Case<'a>> {
+        let parts = parts_of(bytes, id)?;
+        let head = parts.head;
+        Some(Case {
+            number: nth_or_zero(head, 1),
+            lengths: part(head, NUMBER, 8),
+            room: size_in(head, 4),
+            told: part(head, TOLD, HEAD - TOLD),
+            rules: fill_rules(parts.rules, rules),
+            id: parts.id,
+            input: fill_input(parts.stored, size_in(head, 5), input),
+            left: parts.left,
+        })
     }
-    u64::read_le(bytes, at)
-}
 
-// A case with so many bytes of identifier.
-pub fn case_of(bytes: &[u8], id: usize) -> Case {
-    Case {
-        source: u32_in(bytes, 0),
-        rules: u32_in(bytes, 4) as usize,
-        id: id,
-        number: u64_in(bytes, NUMBER),
-        room: u32_in(bytes, 16) as usize,
-        length: u32_in(bytes, 20) as usize,
-        stored: u32_in(bytes, 24) as usize,
-        left: u32_in(bytes, 28) as usize,
+    // Whether a call is to tell an answer, these numbers and then zeros.
+    pub fn tells(&self, answer: u64, numbers: &[u64]) -> bool {
+        u64::nth(self.told, 0) == Some(answer)
+            && (0..5).all(|i| u64::nth(self.told, i + 1)
+                == Some(numbers.get(i).copied().unwrap_or(0)))
     }
-}
-
-pub fn least(a: usize, b: usize) -> usize
-    ensures { (result ≤ a) × (result ≤ b) }
-{
-    if a < b { a } else { b }
-}
-
-// Some of the bytes, cut where they end.
-pub fn part(bytes: &[u8], from: usize, len: usize) -> &[u8]
-    ensures { length result.now ≤ len }
-{
-    if bytes.len() < from {
-        return &bytes[..0];
-    }
-    if bytes.len() - from < len {
-        return &bytes[from..];
-    }
-    let end = from + len;
-    &bytes[from..end]
-}
-
-// What follows the rules: the identifier, the stored input and the bytes left.
-fn after_rules(bytes: &[u8], case: Case) -> &[u8] {
-    let rules = least(case.rules, MOST_RULES);
-    part(bytes, HEAD + 4 * rules, MOST_CASE)
-}
-
-// What follows the identifier.
-fn after_id(bytes: &[u8], case: Case) -> &[u8] {
-    part(after_rules(bytes, case), case.id, MOST_CASE)
-}
-
-// A count, cut to a buffer's length.
-pub fn bytes_within(count: usize, buffer: &[u8]) -> usize
-    ensures { IsPrefixLen result buffer.now }
-{
-    least(count, buffer.len())
-}
-
-pub fn words_within(count: usize, table: &[u32]) -> usize
-    ensures { IsPrefixLen result table.now }
-{
-    least(count, table.len())
-}
-
-// The first words of a table, cut where it ends.
-pub fn first_words(table: &[u32], count: usize) -> &[u32] {
-    let end = words_within(count, table);
-    &table[..end]
-}
-
-// Whether a case's parts are as long as it says and within the limits.
-pub fn is_sound(bytes: &[u8], case: Case) -> bool {
-    if MOST_RULES < case.rules {
-        return false;
-    }
-    if bytes.len() < HEAD + 4 * case.rules {
-        return false;
-    }
-    if after_rules(bytes, case).len() < case.id {
-        return false;
-    }
-    let rest = after_id(bytes, case).len();
-    if rest < case.stored {
-        return false;
-    }
-    let is_whole = rest - case.stored == case.left;
-    let is_input = (case.length <= MOST_INPUT) & (case.stored <= case.length);
-    let is_filled = (0 < case.stored) | (case.length == 0);
-    is_whole & is_input & is_filled
-}
-
-// The case's number as bytes.
-pub fn lengths_of(bytes: &[u8]) -> &[u8] {
-    part(bytes, NUMBER, 8)
-}
-
-pub fn told_of(bytes: &[u8]) -> &[u8] {
-    part(bytes, TOLD, HEAD - TOLD)
-}
-
-pub fn stored_of(bytes: &[u8], case: Case) -> &[u8] {
-    part(after_id(bytes, case), 0, case.stored)
-}
-
-pub fn left_of(bytes: &[u8], case: Case) -> &[u8] {
-    part(after_id(bytes, case), case.stored, case.left)
-}
-
-// The word of 4 bytes with an index, or `past` where the bytes end before it.
-pub fn word_in(bytes: &[u8], i: usize, past: u32) -> u32 {
-    if i < bytes.len() / 4 {
-        u32_in(bytes, 4 * i)
-    } else {
-        past
-    }
-}
-
-// Fills a table with the words that some bytes start with; what is past their end is 0.
-pub fn words_in(bytes: &[u8], words: &mut [u32]) {
-    let mut i = 0;
-    while i < words.len() {
-        words[i] = word_in(bytes, i, 0);
-        i = i + 1;
-    }
-}
-
-// The rule table at the start of an array.
-pub fn rules_of(bytes: &[u8]) -> [u32; MOST_RULES] {
-    let mut rules = [0u32; MOST_RULES];
-    words_in(part(bytes, HEAD, 4 * MOST_RULES), &mut rules);
-    rules
-}
-
-// The byte with an index of some bytes that repeat.
-pub fn repeated(bytes: &[u8], i: usize) -> u8 {
-    if bytes.len() == 0 {
-        return 0;
-    }
-    bytes[i % bytes.len()]
-}
-
-// Fills so many bytes of the input: the stored bytes, and these again after them.
-pub fn repeat(stored: &[u8], input: &mut [u8], count: usize) {
-    let end = least(count, input.len());
-    let mut i = 0;
-    while i < end {
-        input[i] = repeated(stored, i);
-        i = i + 1;
-    }
-}
-
-// The identifier.
-pub fn id_of(bytes: &[u8], case: Case) -> [u8; ID_BYTES] {
-    let mut id = [0u8; ID_BYTES];
-    repeat(after_rules(bytes, case), &mut id, ID_BYTES);
-    id
 }

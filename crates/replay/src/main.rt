@@ -2,144 +2,56 @@
 // The list is a file for each kind of call, in the folder that the program runs in. case.rt says how a case is laid out.
 #![tactic(auto)]
 
-ghost use Rattle.io.specs.Counts.{IsPrefixLen};
+ghost use Rattle.std.specs.Prelude.{◌≤◌, length, IfSome, IfOk};
 
-use crate::agree::{UNTOUCHED, UNTOUCHED_WORD};
-use crate::case::{
-    Case, ID_BYTES, MOST_CASE, MOST_INPUT, bytes_within, case_of, first_words, id_of, is_sound,
-    left_of, lengths_of, part, repeat, rules_of, stored_of, told_of, u32_in,
-};
+use crate::case::{Case, ID_BYTES, MOST_CASE, MOST_INPUT, MOST_RULES};
+use crate::element::{nth_or_zero, within};
 use std::io::Read;
 use std::rt::Files;
 use std::{fs, io};
 
-mod agree;
 mod calls;
 mod case;
-mod header_calls;
+mod element;
 mod header_words;
-mod receiver_calls;
 mod reception;
 mod told_rows;
 
 // More cases than any file has.
 const MOST_CASES: u64 = 65536;
 
-// The longest lent buffers.
-const MOST_NUMBERS: usize = 8192;
-
-const MOST_BYTES: usize = 65536;
-
+// A case that differs, and where its answer comes from.
 #[derive(Clone, Copy)]
-enum Kind {
-    Headers,
-    Encodes,
-    Listings,
-    Texts,
-    Tables,
-    Sections,
-    NormalForms,
-    Names,
-    Receptions,
-    CperListings,
-    CperTexts,
+struct Differs {
+    source: u32,
 }
 
-// What comes next in a file: a case of so many bytes, a case that is cut off, or its end.
-#[derive(Clone, Copy)]
-enum Next {
-    Bytes(usize),
-    Cut,
-    End,
-}
-
-// What came of a case; one that differs has its source.
-#[derive(Clone, Copy)]
-enum Outcome {
-    Agrees,
-    Differs(u64),
-    End,
-}
-
-// How a file went: how many cases agree and how many differ, and the first of these with its source.
+// How a file went: how many cases agree and how many differ, and the first of these with its number.
 #[derive(Clone, Copy)]
 struct Count {
     agree: u64,
     differ: u64,
-    first: u64,
-    source: u64,
+    first: Option<(u64, Differs)>,
 }
 
-// Whether the library does what a case says, on its rules and its input. A listing is made by both walks.
-fn agrees(kind: Kind, bytes: &[u8], case: Case, rules: &[u32], input: &[u8]) -> bool {
-    let mut numbers = [UNTOUCHED_WORD; MOST_NUMBERS];
-    let mut again = [UNTOUCHED_WORD; MOST_NUMBERS];
-    let mut out = [UNTOUCHED; MOST_BYTES];
-    let mut page = [UNTOUCHED; text::MOST_TEXT];
-    let told = told_of(bytes);
-    let left = left_of(bytes, case);
-    let room = case.room;
-    let number = case.number;
-    match kind {
-        Kind::Headers => calls::header(input, rules, told, left),
-        Kind::Encodes => calls::encode(input, rules, &mut out, room, told, left),
-        Kind::Listings => {
-            calls::listing(false, input, rules, number, &mut numbers, room, told, left)
-                & calls::listing(true, input, rules, number, &mut again, room, told, left)
-        }
-        Kind::Texts => calls::text(input, &mut page, told, left),
-        Kind::Tables => calls::table(input, &mut numbers, room, told, left),
-        Kind::Sections => calls::section(input, number, told),
-        Kind::NormalForms => calls::normal_form(input, &mut out, room, told, left),
-        Kind::Names => calls::name(number, &mut out, room, told, left),
-        Kind::Receptions => {
-            let lengths = lengths_of(bytes);
-            reception::reception(input, rules, lengths, &mut numbers, room, told, left)
-        }
-        Kind::CperListings => {
-            let id = id_of(bytes, case);
-            calls::cper_listing(input, id, rules, number, &mut numbers, room, told, left)
-        }
-        Kind::CperTexts => {
-            let mut cper_page = [UNTOUCHED; text::MOST_CPER_TEXT];
-            calls::cper_text(input, &mut cper_page, told, left)
-        }
-    }
-}
-
-// How many bytes of identifier the cases of a kind have.
-fn id_bytes(kind: Kind) -> usize {
-    match kind {
-        Kind::CperListings => ID_BYTES,
-        _ => 0,
-    }
-}
-
-// Makes a case's input in a buffer, and runs the case.
-fn run_with(kind: Kind, bytes: &[u8], rules: &[u32], buffer: &mut [u8; MOST_INPUT]) -> bool {
-    let case = case_of(bytes, id_bytes(kind));
-    if !is_sound(bytes, case) {
-        return false;
-    }
-    repeat(stored_of(bytes, case), buffer, case.length);
-    let input = part(buffer, 0, case.length);
-    agrees(kind, bytes, case, first_words(rules, case.rules), input)
-}
-
-// Runs the case of so many bytes in a buffer.
-fn run(kind: Kind, buffer: &[u8], size: usize) -> Outcome {
-    let bytes = part(buffer, 0, size);
-    let rules = rules_of(bytes);
+// Runs the case that some bytes are.
+fn run<F: Fn(&Case) -> bool>(check: &F, id: usize, bytes: &[u8]) -> Result<(), Differs>
+    requires { F.IsAlwaysCallable check.now }
+{
+    let mut rules = [0u32; MOST_RULES];
     let mut input = [0u8; MOST_INPUT];
-    if run_with(kind, bytes, &rules, &mut input) {
-        return Outcome::Agrees;
+    let case = Case::read(bytes, id, &mut rules, &mut input);
+    if case.is_some_and(|case| check(&case)) {
+        return Ok(());
     }
-    Outcome::Differs(u32_in(bytes, 0) as u64)
+    Err(Differs {
+        source: nth_or_zero(bytes, 0),
+    })
 }
 
 // Reads until a buffer is full or the file ends, and tells how many bytes came. A read that fails ends the file.
 fn read_full(file: &mut impl Read, buffer: &mut [u8]) -> usize
-    ensures { IsPrefixLen result buffer.new }
+    ensures { result ≤ length buffer.new }
 {
     let mut count = 0;
     while count < buffer.len() {
@@ -151,63 +63,58 @@ fn read_full(file: &mut impl Read, buffer: &mut [u8]) -> usize
     count
 }
 
-// Reads the next case to the start of a buffer.
-fn read_case(file: &mut impl Read, buffer: &mut [u8]) -> Next {
+// Reads the next case to the start of a buffer, and tells its length. One that is cut off differs; at the end of the file is none.
+fn read_case(file: &mut impl Read, buffer: &mut [u8]) -> Option<Result<usize, Differs>>
+    ensures { IfSome result (λ case. IfOk case (λ size. size ≤ length buffer.new)) }
+{
+    let cut = Err(Differs { source: 0 });
     let mut size = [0u8; 4];
     let got = read_full(file, &mut size);
     if got == 0 {
-        return Next::End;
+        return None;
     }
     if got < 4 {
-        return Next::Cut;
+        return Some(cut);
     }
-    let bytes = u32_in(&size, 0) as usize;
-    let end = bytes_within(bytes, buffer);
+    let bytes = u32::from_le_bytes(size) as usize;
+    let end = within(bytes, buffer);
     if read_full(file, &mut buffer[..end]) < bytes {
-        return Next::Cut;
+        return Some(cut);
     }
-    Next::Bytes(bytes)
+    Some(Ok(end))
 }
 
-// Reads the next case and runs it.
-fn run_next(kind: Kind, file: &mut impl Read) -> Outcome {
+// Reads the next case and runs it; at the end of the file is none.
+fn run_next<F: Fn(&Case) -> bool>(
+    check: &F,
+    id: usize,
+    file: &mut impl Read,
+) -> Option<Result<(), Differs>>
+    requires { F.IsAlwaysCallable check.now }
+{
     let mut buffer = [0u8; MOST_CASE];
-    let next = read_case(file, &mut buffer);
-    match next {
-        Next::Bytes(size) => run(kind, &buffer, size),
-        Next::Cut => Outcome::Differs(0),
-        Next::End => Outcome::End,
+    match read_case(file, &mut buffer)? {
+        Ok(size) => Some(run(check, id, &buffer[..size])),
+        Err(cut) => Some(Err(cut)),
     }
-}
-
-// A value of the first case that differs: the old one, where there is such a case already.
-fn earlier(differ: u64, old: u64, new: u64) -> u64 {
-    if differ == 0 { new } else { old }
 }
 
 // Runs the cases of a file.
-fn run_cases(kind: Kind, file: &mut impl Read) -> Count {
+fn run_cases<F: Fn(&Case) -> bool>(check: &F, id: usize, file: &mut impl Read) -> Count
+    requires { F.IsAlwaysCallable check.now }
+{
     let mut count = Count {
         agree: 0,
         differ: 0,
-        first: 0,
-        source: 0,
+        first: None,
     };
-    let mut turn = 0;
-    while turn < MOST_CASES {
-        let outcome = run_next(kind, file);
-        turn = turn + 1;
-        match outcome {
-            Outcome::End => {
-                return count;
-            }
-            Outcome::Agrees => {
-                count.agree = count.agree + 1;
-            }
-            Outcome::Differs(source) => {
-                count.first = earlier(count.differ, count.first, turn);
-                count.source = earlier(count.differ, count.source, source);
-                count.differ = count.differ + 1;
+    for turn in 0..MOST_CASES {
+        match run_next(check, id, file) {
+            None => break,
+            Some(Ok(())) => count.agree += 1,
+            Some(Err(differs)) => {
+                count.differ += 1;
+                count.first = count.first.or(Some((turn + 1, differs)));
             }
         }
     }
@@ -215,7 +122,7 @@ fn run_cases(kind: Kind, file: &mut impl Read) -> Count {
 }
 
 // Where the answer of a case comes from.
-fn source_name(source: u64) -> &'static str {
+fn source_name(source: u32) -> &'static str {
     match source {
         1 => "the Rust",
         2 => "cut from the Rust's whole listing",
@@ -226,22 +133,31 @@ fn source_name(source: u64) -> &'static str {
 }
 
 fn report(rt: &impl Print, name: &str, count: Count) -> io::Result<()> {
-    let agree = count.agree;
-    let differ = count.differ;
+    let Count {
+        agree,
+        differ,
+        first,
+    } = count;
     println!(rt; "{name}: {agree} agree, {differ} differ")?;
-    if differ == 0 {
-        return Ok(());
+    if let Some((turn, differs)) = first {
+        let source = source_name(differs.source);
+        println!(rt; "  the first is case {turn} ({source})")?;
     }
-    let first = count.first;
-    let source = source_name(count.source);
-    println!(rt; "  the first is case {first} ({source})")
+    Ok(())
 }
 
-// Runs the cases of a file, and prints how it went.
-fn replay(rt: &(impl Files + Print), kind: Kind, name: &str) -> io::Result<()> {
+// Runs the cases of a file, which have so many bytes of identifier, and prints how it went.
+fn replay<F: Fn(&Case) -> bool>(
+    rt: &(impl Files + Print),
+    name: &str,
+    id: usize,
+    check: F,
+) -> io::Result<()>
+    requires { F.IsAlwaysCallable check }
+{
     match fs::open(rt, name) {
         Ok(mut file) => {
-            let count = run_cases(kind, &mut file);
+            let count = run_cases(&check, id, &mut file);
             report(rt, name, count)
         }
         Err(_) => println!(rt; "{name}: can't be read"),
@@ -249,15 +165,15 @@ fn replay(rt: &(impl Files + Print), kind: Kind, name: &str) -> io::Result<()> {
 }
 
 fn main(rt: HostRuntime) -> io::Result<()> {
-    replay(&rt, Kind::Headers, "headers")?;
-    replay(&rt, Kind::Encodes, "encodes")?;
-    replay(&rt, Kind::Listings, "listings")?;
-    replay(&rt, Kind::Texts, "texts")?;
-    replay(&rt, Kind::Tables, "tables")?;
-    replay(&rt, Kind::Sections, "sections")?;
-    replay(&rt, Kind::NormalForms, "normal_forms")?;
-    replay(&rt, Kind::Names, "names")?;
-    replay(&rt, Kind::Receptions, "receptions")?;
-    replay(&rt, Kind::CperListings, "cper_listings")?;
-    replay(&rt, Kind::CperTexts, "cper_texts")
+    replay(&rt, "headers", 0, calls::header)?;
+    replay(&rt, "encodes", 0, calls::encode)?;
+    replay(&rt, "listings", 0, calls::listing)?;
+    replay(&rt, "texts", 0, calls::text)?;
+    replay(&rt, "tables", 0, calls::table)?;
+    replay(&rt, "sections", 0, calls::section)?;
+    replay(&rt, "normal_forms", 0, calls::normal_form)?;
+    replay(&rt, "names", 0, calls::name)?;
+    replay(&rt, "receptions", 0, reception::reception)?;
+    replay(&rt, "cper_listings", ID_BYTES, calls::cper_listing)?;
+    replay(&rt, "cper_texts", 0, calls::cper_text)
 }

@@ -3,12 +3,15 @@
 // there is none. One over 64 bytes is refused, and the next is fed in its place. Any other refusal, and one of the start, ends the
 // pieces. The case tells what the finish tells, and its answer has 256 times the refusal that ended the pieces added. The bytes left
 // are the rows of all calls (told_rows.rt).
-ghost use Rattle.std.specs.Prelude.{◌≤◌};
+ghost use Rattle.std.specs.Prelude.{◌≡◌, ◌≤◌, length};
 
-use crate::agree::{UNTOUCHED, UNTOUCHED_LONG, UNTOUCHED_WORD, left_words, tells_five};
-use crate::case::{MOST_CASE, MOST_INPUT, least, part, repeated, words_within};
-use crate::receiver_calls::{fed, finished, started};
+use crate::calls::MOST_NUMBERS;
+use crate::case::{Case, MOST_INPUT};
+use crate::element::{Element, left, within};
 use crate::told_rows::{bytes_of, takes_rows};
+use crashlog::receivers::{
+    crashlog_receiver_feed, crashlog_receiver_finish, crashlog_receiver_start,
+};
 use receiver::{KEPT, Receiver, State};
 use rules::columns::NUMBERS;
 
@@ -17,13 +20,13 @@ const MOST_PIECE: usize = 64;
 // As many pieces as a region can be cut into: of eight lengths one at least is not 0.
 const MOST_PIECES: usize = 8 * MOST_INPUT;
 
-// How far a reception is: the receiver; how many bytes of the region are taken; where in the rows wanted those start that are still to
-// be told; the refusal that ended the pieces, or 0; and whether all was as wanted.
-#[derive(Clone, Copy)]
-struct Progress {
+// How far a reception is: the receiver; how many bytes of the region are taken; the rows wanted that are still to be told; the refusal
+// that ended the pieces, or 0; and whether all was as wanted.
+#[derive(Drop)]
+struct Progress<'a> {
     receiver: Receiver,
     taken: usize,
-    wanted_from: usize,
+    wanted: &'a [u8],
     refused: u32,
     agrees: bool,
 }
@@ -31,45 +34,24 @@ struct Progress {
 // A receiver that was never started.
 fn untouched() -> Receiver {
     let state = State {
-        taken: UNTOUCHED_LONG,
-        offset: UNTOUCHED_LONG,
-        rows: UNTOUCHED_LONG,
-        rule_blocks: UNTOUCHED_LONG,
-        whole: UNTOUCHED_WORD,
-        stage: UNTOUCHED_WORD,
+        taken: u64::UNTOUCHED,
+        offset: u64::UNTOUCHED,
+        rows: u64::UNTOUCHED,
+        rule_blocks: u64::UNTOUCHED,
+        whole: u32::UNTOUCHED,
+        stage: u32::UNTOUCHED,
     };
-    let rules = [UNTOUCHED_WORD; NUMBERS];
-    let kept = [UNTOUCHED; KEPT];
-    Receiver { state, rules, kept }
-}
-
-// Starts a receiver.
-fn begin(rules: &[u32]) -> Progress {
-    let turned = started(untouched(), rules);
-    let receiver = turned.receiver;
-    Progress {
-        receiver,
-        taken: 0,
-        wanted_from: 0,
-        refused: turned.answer,
-        agrees: true,
+    Receiver {
+        state,
+        rules: [u32::UNTOUCHED; NUMBERS],
+        kept: [u8::UNTOUCHED; KEPT],
     }
-}
-
-// A place so many bytes on, or where the bytes end.
-fn onward(bytes: &[u8], from: usize, count: usize) -> usize
-    ensures { from ≤ result }
-{
-    if bytes.len() < from {
-        return from;
-    }
-    from + least(count, bytes.len() - from)
 }
 
 // Whether a piece is answered as its length demands: one that is too long is refused. And no refusal tells rows.
 fn answers_well(answer: u32, length: usize, rows: u64) -> bool {
-    let is_due = (length <= MOST_PIECE) | (answer == answers::BAD_PIECE);
-    is_due & ((answer == answers::DONE) | (rows == 0))
+    let is_due = length <= MOST_PIECE || answer == answers::BAD_PIECE;
+    is_due && (answer == answers::DONE || rows == 0)
 }
 
 // The refusal that ends the pieces: not that of a piece which is too long.
@@ -81,115 +63,86 @@ fn ending(answer: u32, length: usize) -> u32 {
     }
 }
 
-// The bytes taken after a piece that ends there.
-fn taken_after(answer: u32, from: usize, end: usize) -> usize {
-    if answer == answers::DONE { end } else { from }
-}
-
-// Feeds the next piece, of the length that is asked if the region has as much.
-fn next_piece(
-    progress: Progress,
-    asked: u8,
-    region: &[u8],
-    spans: &mut [u32],
-    wanted: &[u8],
-) -> Progress {
-    let from = progress.taken;
-    let wanted_from = progress.wanted_from;
-    let before = progress.receiver;
-    let end = onward(region, from, asked as usize);
-    let length = end - from;
-    let mut rows = UNTOUCHED_LONG;
-    let turned = fed(before, part(region, from, length), spans, &mut rows);
-    let receiver = turned.receiver;
-    let answer = turned.answer;
-    let same = takes_rows(spans, rows, end, part(wanted, wanted_from, MOST_CASE));
-    Progress {
-        receiver,
-        taken: taken_after(answer, from, end),
-        wanted_from: onward(wanted, wanted_from, bytes_of(rows)),
-        refused: ending(answer, length),
-        agrees: progress.agrees & same & answers_well(answer, length, rows),
-    }
-}
-
-// Whether no piece is fed any more: one was refused, or the region is all taken.
-fn is_over(refused: u32, taken: usize, region: &[u8]) -> bool {
-    (refused != answers::DONE) | (region.len() <= taken)
-}
-
-// Feeds a region piece by piece.
-fn feed_pieces(
-    before: Progress,
-    lengths: &[u8],
-    region: &[u8],
-    spans: &mut [u32],
-    wanted: &[u8],
-) -> Progress {
-    let mut progress = before;
-    let mut turn = 0;
-    while turn < MOST_PIECES {
-        if is_over(progress.refused, progress.taken, region) {
-            return progress;
-        }
-        progress = next_piece(progress, repeated(lengths, turn), region, spans, wanted);
-        turn = turn + 1;
-    }
-    progress
-}
-
 // Whether a receiver takes no piece after a finish with some answer, unless that was refused for the table's room.
-fn is_shut(before: Receiver, answer: u32, spans: &mut [u32]) -> bool {
-    let mut rows = UNTOUCHED_LONG;
-    let turned = fed(before, b"", spans, &mut rows);
-    let is_refused = turned.answer == answers::NOT_RECEIVING;
-    (rows == 0) & (is_refused | (answer == answers::BAD_PIECE))
+fn is_shut(receiver: &mut Receiver, answer: u32, spans: &mut [u32]) -> bool {
+    let mut rows = u64::UNTOUCHED;
+    let again = crashlog_receiver_feed(receiver, b"", spans, &mut rows);
+    rows == 0 && (again == answers::NOT_RECEIVING || answer == answers::BAD_PIECE)
 }
 
-// Whether a finish tells what the case says and the rows that are still wanted, and leaves the receiver shut.
-fn finishes(progress: Progress, spans: &mut [u32], told: &[u8], wanted: &[u8]) -> bool {
-    let before = progress.receiver;
-    let wanted_from = progress.wanted_from;
-    let mut heard = [UNTOUCHED_LONG; 5];
-    let turned = finished(before, spans, &mut heard);
-    let after = turned.receiver;
-    let answer = turned.answer;
-    let rows = heard[0];
-    let same = takes_rows(
-        spans,
-        rows,
-        progress.taken,
-        part(wanted, wanted_from, MOST_CASE),
-    );
-    let is_all = onward(wanted, wanted_from, bytes_of(rows)) == wanted.len();
-    let number = answer as u64 + 256 * (progress.refused as u64);
-    same & is_all & tells_five(number, heard, told) & is_shut(after, answer, spans)
+impl<'a> Progress<'a> {
+    fn start(case: &Case<'a>) -> Progress<'a>
+        ensures { result.taken ≡ 0 }
+    {
+        let mut receiver = untouched();
+        let refused = crashlog_receiver_start(&mut receiver, case.rules);
+        Progress {
+            receiver,
+            taken: 0,
+            wanted: case.left,
+            refused,
+            agrees: true,
+        }
+    }
+
+    // Compares the rows that a call told.
+    fn take_rows(&mut self, spans: &mut [u32], rows: u64)
+        ensures { self.new.taken ≡ self.old.taken }
+    {
+        self.agrees &= takes_rows(spans, rows, self.taken, self.wanted);
+        let told = within(bytes_of(rows), self.wanted);
+        self.wanted = &self.wanted[told..];
+    }
+
+    // Feeds the next piece, of the length that is asked if the region has as much.
+    fn feed(&mut self, asked: u8, region: &[u8], spans: &mut [u32])
+        requires { self.old.taken ≤ length region.now }
+        ensures { self.new.taken ≤ length region.now }
+    {
+        let rest = &region[self.taken..];
+        let length = within(asked as usize, rest);
+        let mut rows = u64::UNTOUCHED;
+        let answer = crashlog_receiver_feed(&mut self.receiver, &rest[..length], spans, &mut rows);
+        if answer == answers::DONE {
+            self.taken += length;
+        }
+        self.take_rows(spans, rows);
+        self.agrees &= answers_well(answer, length, rows);
+        self.refused = ending(answer, length);
+    }
+
+    // Feeds a region piece by piece, until one is refused or the region is all taken.
+    fn feed_all(&mut self, lengths: &[u8], region: &[u8], spans: &mut [u32])
+        requires { self.old.taken ≤ length region.now }
+    {
+        for asked in lengths.iter().cycle().take(MOST_PIECES) {
+            if self.refused != answers::DONE || region.len() <= self.taken {
+                return;
+            }
+            self.feed(*asked, region, spans);
+        }
+    }
+
+    // Whether a finish tells what the case says and the rows that are still wanted, and leaves the receiver shut.
+    fn finishes(mut self, case: &Case, spans: &mut [u32]) -> bool {
+        let mut told = [u64::UNTOUCHED; 5];
+        let answer = crashlog_receiver_finish(&mut self.receiver, spans, &mut told);
+        let rows = told[0];
+        self.take_rows(spans, rows);
+        let number = answer as u64 + 256 * self.refused as u64;
+        self.agrees
+            & self.wanted.is_empty()
+            & case.tells(number, &told)
+            & is_shut(&mut self.receiver, answer, spans)
+    }
 }
 
-// Whether the calls tell what the case says, on a table that is theirs.
-fn receives(
-    region: &[u8],
-    rules: &[u32],
-    lengths: &[u8],
-    spans: &mut [u32],
-    told: &[u8],
-    wanted: &[u8],
-) -> bool {
-    let progress = feed_pieces(begin(rules), lengths, region, spans, wanted);
-    let agrees = progress.agrees;
-    finishes(progress, spans, told, wanted) & agrees
-}
-
-// The same on the case's room of a table, which is then untouched: the rows that were told are made so.
-pub(crate) fn reception(
-    region: &[u8],
-    rules: &[u32],
-    lengths: &[u8],
-    spans: &mut [u32],
-    room: usize,
-    told: &[u8],
-    wanted: &[u8],
-) -> bool {
-    let lent = words_within(room, spans);
-    receives(region, rules, lengths, &mut spans[..lent], told, wanted) & left_words(spans, b"")
+// The calls on the case's room of a table, which is untouched in the end: the rows that were told are made so.
+pub(crate) fn reception(case: &Case) -> bool {
+    let mut spans = [u32::UNTOUCHED; MOST_NUMBERS];
+    let lent = within(case.room, &spans);
+    let table = &mut spans[..lent];
+    let mut progress = Progress::start(case);
+    progress.feed_all(case.lengths, case.input, table);
+    progress.finishes(case, table) & left(&spans, b"")
 }

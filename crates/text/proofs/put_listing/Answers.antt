@@ -1,6 +1,6 @@
 -- `put_listing` puts the heading, the rows and the last line.
 -- One after the other, from the start. Assumes nothing.
-use mathlib.Core.Path.{◌≡◌, refl}
+use mathlib.Core.Path.{refl}
 use mathlib.Core.List.{List}
 use Prim.Native.Nat.{ℕ, ◌+◌}
 use native.Mathlib.Omega.{arith}

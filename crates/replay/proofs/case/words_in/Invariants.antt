@@ -1,8 +1,0 @@
--- `words_in` writes within the table, and ends.
--- The index is below the table's length in the loop; what is left of the table falls. Assumes nothing.
-use Prim.Native.Nat.{◌-◌}
-use lib.ListN.{length}
-use Rattle.replay.proofs.case.words_in.Given as goal
-
-abbrev pub decreases-loop-i : goal.decreases-loop-i
-decreases-loop-i l = length l.initial.words - l.i
