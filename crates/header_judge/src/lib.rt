@@ -205,16 +205,16 @@ pub fn size_of(s: &[u8], word: u32, flags: u32) -> Result<usize, NoRecord>
 // The bytes that the record declares, where its header's size is known: 0 where no record is.
 #[tactic(auto, unfolding(crate::specs::Head::head_with, crate::specs::Head::declared_by))]
 pub fn declared_in(s: &[u8], word: u32, flags: u32, size: Result<usize, NoRecord>) -> usize
-    requires { (size ≡ size_of s.now word flags) × Measured s.now flags size }
+    requires { size ≡ size_of s.now word flags }
     ensures { (result ≡ declared_by (head_with s.now word flags)) × (result ≤ 524280) }
 {
     if word == NO_WORD {
         return 0;
     }
-    if size.is_err() {
-        return 0;
+    match size {
+        Ok(_) => declared_of(s, flags),
+        Err(_) => 0,
     }
-    declared_of(s, flags)
 }
 
 // What a header says of its record, where its sizes are known.

@@ -9,13 +9,12 @@ use native.Mathlib.Omega.{arith}
 use lib.ListN.{length}
 use borrow.Author.Tests.{eq-eqb, ne_eqb, lt-leb}
 use Rattle.std.proofs.Common.{Ok, Err}
-use Rattle.header_judge.specs.declared.version.Ending.{Ending}
 use Rattle.header_judge.specs.declared.Summary.{Summary}
-use Rattle.header_judge.specs.declared.NoRecord.TheVariants.{Ended, BadHeader, BadType}
+use Rattle.header_judge.specs.declared.NoRecord.{NoRecord}
 use Rattle.header_judge.specs.Head.{head_of, Head}
 use Rattle.region_rows.specs.Rows.{width, top, with_span, laid}
 use Rattle.region_rows.proofs.Rows.{stored_none, stored_more, stored_laid, laid_none}
-use Rattle.region_try.specs.Stops.{stop_ended, stop_by, stop_of, bad_type_of}
+use Rattle.region_try.specs.Stops.{stop_by, bad_type_by, stop_of, bad_type_of}
 use Rattle.region_try.specs.Tries.{Try, none, hit, try_of, span_of, rows_found, stands_at}
 use Rattle.region_try.specs.Whole.{clean_stop, filled, box_unopened, keeps_whole, all_keep_whole}
 use Rattle.region_try.specs.declared.stop.Stop.{Stop}
@@ -36,20 +35,11 @@ AtLevel l (hit r) = Unit {0}
 
 module _ (offset held rows : ℕ) (whole : Bool) (t : List ℕ) where
   -- no record
-  pub end_ended : {head : Head} {ending : Ending} → head ≡ Err (Ended ending)
-      → end_at (try_of 0 top offset held head) rows whole t ≡ (t, listing_at rows 0 (rows + 1) (whole && clean_stop (stop_ended ending)) (stop_ended ending) 0)
+  pub end_none : {head : Head} {why : NoRecord} → head ≡ Err why
+      → end_at (try_of 0 top offset held head) rows whole t
+      ≡ (t, listing_at rows 0 (rows + 1) (whole && clean_stop (stop_by (Err why))) (stop_by (Err why)) (bad_type_by (Err why)))
   unfolding try_of end_at
-  end_ended e = rw e
-
-  pub end_bad_header : {head : Head} → head ≡ Err BadHeader
-      → end_at (try_of 0 top offset held head) rows whole t ≡ (t, listing_at rows 0 (rows + 1) (whole && clean_stop Stop.BadHeader) Stop.BadHeader 0)
-  unfolding try_of end_at
-  end_bad_header e = rw e
-
-  pub end_bad_type : {head : Head} {type : ℕ} → head ≡ Err (BadType type)
-      → end_at (try_of 0 top offset held head) rows whole t ≡ (t, listing_at rows 0 (rows + 1) (whole && clean_stop Stop.BadType) Stop.BadType type)
-  unfolding try_of end_at
-  end_bad_type e = rw e
+  end_none e = rw e
 
   -- a record that declares no byte
   pub end_empty : {head : Head} (s : Summary) → head ≡ Ok s → s.declared ≡ 0

@@ -8,8 +8,9 @@ use native.Mathlib.Omega.{arith}
 use lib.Dec.{ltb}
 use borrow.Author.Tests.{lt-leb, le-leb, ne_eqb}
 use Rattle.std.proofs.Common.{Ok}
-use Rattle.header_judge.specs.Head.{lacking, size_of, declared_of, is_box, summary_of, head_with, head_of, declared_by, Head}
+use Rattle.header_judge.specs.Head.{declared_of, is_box, summary_of, Complete, head_with, head_of, declared_by, Head}
 use Rattle.header_judge.specs.declared.Summary.{Summary}
+use Rattle.header_judge.proofs.Sizes.{size_found}
 use Rattle.header_judge.proofs.Heads.{head_known, head_record, declared_record, word_there, header_there}
 use Rattle.region_rows.specs.Rows.{top, with_span}
 use Rattle.region_try.specs.Tries.{hit, span_of, try_of}
@@ -53,7 +54,7 @@ module _ (f : Front) (left : ℕ) where
   pub record AllIn (declared : ℕ) : Type 0 where
     pub is : head_at f ≡ Ok summary
     pub declares : declared ≡ declared_of f.bytes.now f.lookup.flags
-    pub sized : lacking < size_of f.bytes.now f.lookup.word f.lookup.flags
+    pub sized : Complete f.bytes.now f.lookup.word f.lookup.flags
     pub fits : declared ≤ left
 
   module _ (declared : ℕ) (some : 0 < declared) (are : declared ≡ bytes_in left (head_at f)) where
@@ -73,16 +74,17 @@ module _ (f : Front) (left : ℕ) where
         }
 
     -- its row is written, by the numbers that are read
-    pub put_in : (m : Moved) (t : List ℕ) (box : Bool) → box ≡ is_box f.lookup.word f.lookup.flags
+    pub put_in : (m : Moved) (t : List ℕ) (box : Bool) (size : ℕ) → f.size ≡ Ok size → box ≡ is_box f.lookup.word f.lookup.flags
         → ◌≡◌ {A = List ℕ × Moved}
-        (with_span t m.rows (span_of 0 top m.offset left summary), record { rows = m.rows + 1; offset = m.offset + declared; whole = m.whole && not (box && ltb declared f.size) })
+        (with_span t m.rows (span_of 0 top m.offset left summary), record { rows = m.rows + 1; offset = m.offset + declared; whole = m.whole && not (box && ltb declared size) })
         (put_of (try_of 0 top m.offset left (head_at f)) m t)
     unfolding put_of try_of
-    put_in m t box b =
+    put_in m t box size found b =
         let all = record_in in
         let fits : summary.declared ≤ left = rw (← all.declares) all.fits in
         let nonzero = ne_eqb summary.declared 0 (λ e. let declares = all.declares in omega arith) in
-        rw (all.is, b, f.sized, all.declares, nonzero, keeps_whole_lem m.offset left summary fits)
+        let is = (size_found f.bytes.now f.lookup.word f.lookup.flags (sym f.sized ∙ found)).is in
+        rw (all.is, b, is, all.declares, nonzero, keeps_whole_lem m.offset left summary fits)
 
 -- the header of a front that was read
 pub front_head : (f : Front) (bytes : List ℕ) (l : Lookup) → f.bytes.now ≡ bytes → SameRules f.lookup l → head_at f ≡ head_of (rules_of l) bytes

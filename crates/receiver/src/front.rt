@@ -3,10 +3,10 @@
 ghost use Rattle.std.specs.Prelude.{◌≡◌};
 ghost use Rattle.header_judge.specs.Version.{word_of};
 ghost use Rattle.header_judge.specs.Head.{size_of};
-ghost use Rattle.header_judge.specs.Steps.{Measured};
 
 use crate::lookup::Lookup;
 use crate::piece::Moved;
+use header_judge::NoRecord;
 use header_judge::version::word_of;
 use region_rows::TOP;
 
@@ -15,10 +15,9 @@ use region_rows::TOP;
 pub struct Front<'b, 'r> {
     pub bytes: &'b [u8],
     pub lookup: Lookup<'r>,
-    pub size: usize,
+    pub size: Result<usize, NoRecord>,
     pub ghost worded: { lookup.word ≡ word_of bytes.now },
     pub ghost sized: { size ≡ size_of bytes.now lookup.word lookup.flags },
-    pub ghost measured: { Measured bytes.now lookup.flags size },
 }
 
 impl<'b, 'r> Front<'b, 'r> {
@@ -64,10 +63,11 @@ impl<'b, 'r> Front<'b, 'r> {
     {
         let word = self.lookup.word;
         let flags = self.lookup.flags;
-        let summary = header_judge::summary_of(self.bytes, word, flags, declared, self.size);
+        let size = self.size.unwrap();
+        let summary = header_judge::summary_of(self.bytes, word, flags, declared, size);
         let span = region_try::span_of(0, TOP, from.offset, left, summary);
         region_rows::put(spans, from.rows as usize, span);
-        let exceeds = header_judge::is_box(word, flags) & (declared < self.size);
+        let exceeds = header_judge::is_box(word, flags) & (declared < size);
         Moved {
             rows: from.rows + 1,
             offset: from.offset + declared,

@@ -11,12 +11,12 @@ ghost use Rattle.receiver.specs.Steps.{bytes_in, listing_at, end_at, last_of};
 use crate::lookup::Lookup;
 use crate::piece::Moved;
 use crate::{KEPT, State};
-use header_judge::Head;
 use header_judge::version::word_of;
+use header_judge::{NoRecord, Summary};
 use region::Listing;
 use region_rows::TOP;
 use region_try::Cut;
-use region_try::stop::{Stop, clean_stop, stop_ended};
+use region_try::stop::{Stop, clean_stop, stop_at};
 
 // The listing of a walk that is not cut off: its rows are those that are written now, the answer goes by all of them.
 fn listing_at(
@@ -56,15 +56,16 @@ fn at_stop(from: Moved, stop: Stop, bad_type: u32) -> Listing
 }
 
 // The listing where the walk stands at a header: a record lacks bytes, or declares none.
-fn at_head(head: Head, held: usize, from: Moved, spans: &mut [u32]) -> Listing
+fn at_head(head: Result<Summary, NoRecord>, held: usize, from: Moved, spans: &mut [u32]) -> Listing
     requires { HeadBounds head × (bytes_in held head ≡ 0) × (from.offset < 2 ^ 32) × (from.rows + 1 < 2 ^ 32) × (width ≤ length spans.old) }
     ensures { (spans.new, result) ≡ end_at (try_of 0 top from.offset held head) from.rows from.whole spans.old }
 {
     match head {
-        Head::Ended(ending) => at_stop(from, stop_ended(ending), 0),
-        Head::BadHeader => at_stop(from, Stop::BadHeader, 0),
-        Head::BadType(header_type) => at_stop(from, Stop::BadType, header_type),
-        Head::Record(summary) => {
+        Err(why) => {
+            let (stop, bad_type) = stop_at(why);
+            at_stop(from, stop, bad_type)
+        }
+        Ok(summary) => {
             if summary.declared == 0 {
                 return at_stop(from, Stop::SizeZero, 0);
             }

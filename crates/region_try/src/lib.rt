@@ -11,7 +11,7 @@ pub mod stop;
 use header_judge::version::{NO_WORD, ending_of};
 use header_judge::{NoRecord, Summary};
 use region_rows::Span;
-use stop::Stop;
+use stop::{Stop, stop_at};
 
 // What cut a walk off, if anything did.
 #[derive(Clone, Copy, Debug, PartialEq, Eq)]
@@ -50,11 +50,7 @@ impl From<NoRecord> for Found {
     ghost from_gives = { λ why found. found ≡ nothing_for why };
 
     fn from(why: NoRecord) -> Found {
-        let (stop, bad_type) = match why {
-            NoRecord::Ended(ending) => (ending.into(), 0),
-            NoRecord::BadHeader => (Stop::BadHeader, 0),
-            NoRecord::BadType(header_type) => (Stop::BadType, header_type),
-        };
+        let (stop, bad_type) = stop_at(why);
         Found::Nothing { stop, bad_type }
     }
 }

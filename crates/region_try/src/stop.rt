@@ -1,9 +1,10 @@
 // Why a region stops (document 02, C-12), the number of each reason, and which of them leave a listing whole (C-14).
-ghost use Rattle.std.specs.Prelude.{◌≡◌};
-ghost use Rattle.region_try.specs.Stops.{stop_number, stop_ended};
+ghost use Rattle.std.specs.Prelude.{◌≡◌, Err};
+ghost use Rattle.region_try.specs.Stops.{stop_number, stop_ended, stop_by, bad_type_by};
 ghost use Rattle.region_try.specs.Whole.{clean_stop};
 
 use answers::stops;
+use header_judge::NoRecord;
 use header_judge::version::Ending;
 
 // Untold, where the walk is cut off or not made, is number 0 of include/crashlog.h. A bad type is told as a bad header; it stands beside
@@ -55,6 +56,17 @@ pub fn stop_ended(ending: Ending) -> Stop
     ensures { result ≡ stop_ended ending }
 {
     ending.into()
+}
+
+// The reason where no record is, and the bad type, else 0.
+pub fn stop_at(why: NoRecord) -> (Stop, u32)
+    ensures { (result.0 ≡ stop_by (Err why)) × (result.1 ≡ bad_type_by (Err why)) }
+{
+    match why {
+        NoRecord::Ended(ending) => (ending.into(), 0),
+        NoRecord::BadHeader => (Stop::BadHeader, 0),
+        NoRecord::BadType(header_type) => (Stop::BadType, header_type),
+    }
 }
 
 // Is all well where a region stops for a reason: at its input's end, or at a word that ends the records?
