@@ -1,17 +1,18 @@
 // What stays the same in a whole walk.
-ghost use Rattle.std.specs.Prelude.{◌≡◌, ◌≤◌, min};
+ghost use Rattle.std.specs.Prelude.{◌≡◌, ◌<◌, ◌^◌, min};
 ghost use Rattle.region_rows.specs.Rows.{capacity, most_rows};
 
 use region_rows::room_of;
 use rules::columns::Columns;
 
-// The rule table, the limit of tries, and the rows that there is room for: none has the number that stands for no parent.
+// The rule table, the limit of tries, and the rows that there is room for. The ghost field tells a walk, which has the room behind a
+// reference, that it fits its type.
 #[derive(Drop)]
 pub struct Bounds {
     pub rules: Columns,
     pub limit: u64,
     pub room: u32,
-    pub ghost numbered: { room ≤ most_rows },
+    pub ghost fits: { room < 2 ^ 32 },
 }
 
 impl Bounds {

@@ -115,7 +115,7 @@ region_walk-returns-in-NoRoom t c =
     rw c.walk_end-in-NoRoom.ensures (sym (l.invariant.ends ∙ full_turn turn l.whole refl))
 
 pub region_walk-overflow_add-rows : goal.region_walk-overflow_add-rows
-region_walk-overflow_add-rows t c = let a = goal.at.region_walk-overflow_add-rows t c in omega (arith, free t a.In-Row (known t a.Joined-word-last), c.args.bounds.now.numbered)
+region_walk-overflow_add-rows t c = let a = goal.at.region_walk-overflow_add-rows t c in omega (arith, free t a.In-Row (known t a.Joined-word-last), c.args.bounds.now.fits)
 
 pub region_walk-overflow_add-end : goal.region_walk-overflow_add-end
 region_walk-overflow_add-end t c = let a = goal.at.region_walk-overflow_add-end t c in omega (arith, held t a.In-Row (known t a.Joined-word-last), c.requires.offsets)
