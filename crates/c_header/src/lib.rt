@@ -2,7 +2,7 @@
 #![tactic(auto)]
 
 ghost use Rattle.std.specs.Prelude.{◌≡◌};
-ghost use Rattle.c_header.specs.Header.{no_stamp, only_complete, error_extras, who_extras, socket_extras, fields_with, fields_of, header_out, has_complete, sound, fields_in, type_of, taken_of};
+ghost use Rattle.c_header.specs.Header.{fields_with, fields_of, header_out, has_complete, sound, fields_in, type_of, taken_of};
 
 pub mod codec;
 
@@ -58,64 +58,25 @@ pub struct Fields {
     pub extras: Extras,
 }
 
-fn no_stamp() -> Stamp
-    ensures { result ≡ no_stamp }
-{
-    Stamp {
-        timestamp: 0,
-        agent_version: 0,
-        reason: 0,
-    }
-}
+const NO_STAMP: Stamp = Stamp {
+    timestamp: 0,
+    agent_version: 0,
+    reason: 0,
+};
 
-// A status of 0.
-fn only_complete(collection_complete: bool) -> Status
-    ensures { result ≡ only_complete collection_complete }
-{
-    Status {
-        completion_status: 0,
-        collection_complete,
-    }
-}
+const NO_STATUS: Status = Status {
+    completion_status: 0,
+    collection_complete: false,
+};
 
-fn error_extras(error_status: u32) -> Extras
-    ensures { result ≡ error_extras error_status }
-{
-    Extras {
-        error_status,
-        whoami: 0,
-        misc: 0,
-        die_id: 0,
-        socket_id: 0,
-        completion_status_size: 0,
-    }
-}
-
-fn who_extras(whoami: u32, misc: u32) -> Extras
-    ensures { result ≡ who_extras whoami misc }
-{
-    Extras {
-        error_status: 0,
-        whoami,
-        misc,
-        die_id: 0,
-        socket_id: 0,
-        completion_status_size: 0,
-    }
-}
-
-fn socket_extras(die_id: u8, socket_id: u8, completion_status_size: u16) -> Extras
-    ensures { result ≡ socket_extras die_id socket_id completion_status_size }
-{
-    Extras {
-        error_status: 0,
-        whoami: 0,
-        misc: 0,
-        die_id,
-        socket_id,
-        completion_status_size,
-    }
-}
+const NO_EXTRAS: Extras = Extras {
+    error_status: 0,
+    whoami: 0,
+    misc: 0,
+    die_id: 0,
+    socket_id: 0,
+    completion_status_size: 0,
+};
 
 // The status goes by its two fields: copied whole, it is one number of 8 bytes to the compiler, which then copies a decoded header twice.
 fn fields_with(layout: u8, stamp: Stamp, status: Status, extras: Extras) -> Fields
@@ -135,43 +96,67 @@ fn fields_with(layout: u8, stamp: Stamp, status: Status, extras: Extras) -> Fiel
 fn fields_of(header_type: HeaderType) -> Fields
     ensures { result ≡ fields_of header_type }
 {
-    let no_status = only_complete(false);
-    let no_extras = error_extras(0);
     match header_type {
-        HeaderType::Type0 => fields_with(0, no_stamp(), no_status, no_extras),
-        HeaderType::Type1 => fields_with(1, no_stamp(), no_status, no_extras),
-        HeaderType::Type2 { stamp: p } => fields_with(2, p, no_status, no_extras),
-        HeaderType::Type3 {
-            stamp: p,
-            status: s,
-        } => fields_with(3, p, s, no_extras),
+        HeaderType::Type0 => fields_with(0, NO_STAMP, NO_STATUS, NO_EXTRAS),
+        HeaderType::Type1 => fields_with(1, NO_STAMP, NO_STATUS, NO_EXTRAS),
+        HeaderType::Type2 { stamp } => fields_with(2, stamp, NO_STATUS, NO_EXTRAS),
+        HeaderType::Type3 { stamp, status } => fields_with(3, stamp, status, NO_EXTRAS),
         HeaderType::Type4 {
-            stamp: p,
-            whoami: w,
-            misc: m,
-        } => fields_with(4, p, no_status, who_extras(w, m)),
+            stamp,
+            whoami,
+            misc,
+        } => {
+            let extras = Extras {
+                whoami,
+                misc,
+                ..NO_EXTRAS
+            };
+            fields_with(4, stamp, NO_STATUS, extras)
+        }
         HeaderType::Type5 {
-            stamp: p,
-            status: s,
-            error_status: e,
-        } => fields_with(5, p, s, error_extras(e)),
+            stamp,
+            status,
+            error_status,
+        } => {
+            let extras = Extras {
+                error_status,
+                ..NO_EXTRAS
+            };
+            fields_with(5, stamp, status, extras)
+        }
         HeaderType::Type6 {
-            stamp: p,
-            die_id: d,
-            socket_id: k,
-            completion_status_size: n,
-            collection_complete: c,
-        } => fields_with(6, p, only_complete(c), socket_extras(d, k, n)),
+            stamp,
+            die_id,
+            socket_id,
+            completion_status_size,
+            collection_complete,
+        } => {
+            let status = Status {
+                collection_complete,
+                ..NO_STATUS
+            };
+            let extras = Extras {
+                die_id,
+                socket_id,
+                completion_status_size,
+                ..NO_EXTRAS
+            };
+            fields_with(6, stamp, status, extras)
+        }
         HeaderType::Type0LegacyServer {
-            stamp: p,
-            die_id: d,
-            socket_id: k,
-            status: s,
-        } => fields_with(7, p, s, socket_extras(d, k, 0)),
-        HeaderType::Type0LegacyGpu {
-            stamp: p,
-            status: s,
-        } => fields_with(8, p, s, no_extras),
+            stamp,
+            die_id,
+            socket_id,
+            status,
+        } => {
+            let extras = Extras {
+                die_id,
+                socket_id,
+                ..NO_EXTRAS
+            };
+            fields_with(7, stamp, status, extras)
+        }
+        HeaderType::Type0LegacyGpu { stamp, status } => fields_with(8, stamp, status, NO_EXTRAS),
     }
 }
 
