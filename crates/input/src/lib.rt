@@ -7,6 +7,7 @@ use std::io;
 use std::io::Read;
 
 // Reads until the input ends or the buffer is full, and tells how many bytes came.
+// std's own reading to the end fills a Vec, and the dumps use no heap.
 pub fn read_input(rt: &impl io::Input, buffer: &mut [u8]) -> io::Result<usize>
     ensures { IfOk result (λ count. count ≤ length buffer.old) }
 {

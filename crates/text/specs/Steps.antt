@@ -3,6 +3,10 @@ use Rattle.std.specs.Prelude.{ℕ, ◌+◌, ◌*◌, ◌≤◌, ◌≡◌, List,
 use Rattle.std.proofs.lemmas.List.Edits.{sets}
 use Rattle.text.specs.declared.page.Page.{Page}
 
+-- the buffer has room for so many bytes more
+abbrev pub HasRoom : Page → ℕ → Type 0
+HasRoom page most = page.end + most ≤ length page.out.now
+
 -- the same buffer, with the text put after what was there, and else as it was; the text has at most so many bytes
 pub record Puts (before : Page) (text : List ℕ) (most : ℕ) (after : Page) : Type 0 where
   pub bytes : after.out.now ≡ sets before.out.now before.end text
