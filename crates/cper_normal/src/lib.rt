@@ -36,7 +36,7 @@ fn measure(cper: &[u8]) -> Extent
     }
     Extent {
         kept,
-        size: (descriptor_at(kept) as u64) + bodies,
+        size: (descriptor_at(kept as usize) as u64) + bodies,
     }
 }
 
@@ -57,7 +57,7 @@ fn write_section(cper: &[u8], section: Section, out: &mut [u8], row: u16, to: us
     ensures { out.new ≡ with_section cper.now out.old row to section }
 {
     let from = descriptor_at(section.index);
-    let slot = descriptor_at(row);
+    let slot = descriptor_at(row as usize);
     cper_descr::rewrite(&cper[from..], &mut out[slot..], to as u32);
     let start = section.offset as usize;
     let stop = start + (section.size as usize);
@@ -70,7 +70,7 @@ fn write_sections(cper: &[u8], out: &mut [u8], kept: u16)
     ensures { out.new ≡ pack cper.now out.old 0 (bodies_at (kept_of cper.now)) (kept_of cper.now) }
 {
     let mut row: u16 = 0;
-    let mut to = descriptor_at(kept);
+    let mut to = descriptor_at(kept as usize);
     for section in Kept::new(cper) {
         write_section(cper, section, out, row, to);
         row += 1;

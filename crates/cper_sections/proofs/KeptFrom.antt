@@ -9,10 +9,10 @@ use native.Mathlib.Omega.{arith}
 use lib.Dec.{leb}
 use lib.ListN.{length}
 use borrow.Author.Tests.{leb-true}
+use Rattle.std.specs.Prelude.{Result, Ok, Err}
 use Rattle.basics.proofs.Bools.{both}
 use Rattle.cper_header.specs.Record.{count_of}
 use Rattle.cper_descr.specs.Descriptor.{descriptor_size}
-use Rattle.std.specs.Prelude.{Result, Ok, Err}
 use Rattle.cper_sections.specs.Answers.{check_of, after}
 use Rattle.cper_sections.specs.Sections.{descriptor_at, told, keeps, kept_from, kept_of, place_in, place_of}
 use Rattle.cper_sections.specs.Steps.{Within, AllWithin, kept_in}

@@ -1,7 +1,7 @@
 -- What the inner functions ask and give: the kept sections still to come, a section that lies in the input.
-use Rattle.std.specs.Prelude.{ℕ, ◌+◌, ◌-◌, ◌≤◌, ◌<◌, ◌≡◌, List, [], ◌∷◌, length, Option, Some, None}
+use Rattle.std.specs.Prelude.{ℕ, ◌+◌, ◌-◌, ◌≤◌, ◌<◌, ◌≡◌, List, [], ◌∷◌, length, true, Option, Some, None}
 use Rattle.cper_descr.specs.Descriptor.{descriptor_size}
-use Rattle.cper_sections.specs.Sections.{descriptor_at, kept_from}
+use Rattle.cper_sections.specs.Sections.{descriptor_at, told, keeps, kept_from}
 use Rattle.cper_sections.specs.declared.kept.Section.{Section}
 
 -- a section's descriptor and body lie in the input
@@ -18,7 +18,7 @@ AllWithin cper (k ∷ ks) = Within cper k × AllWithin cper ks
 abbrev pub kept_in : List ℕ → ℕ → ℕ → List Section
 kept_in cper index count = kept_from cper index (count - index)
 
--- from an index on, the kept sections are none, or the one told and those after it
-abbrev pub NextKept : List ℕ → ℕ → ℕ → Option Section → Type 0
+-- from an index on, the kept sections are none, or that of the index told and those after it
+abbrev pub NextKept : List ℕ → ℕ → ℕ → Option ℕ → Type 0
 NextKept cper from count None = kept_in cper from count ≡ []
-NextKept cper from count (Some k) = (k.index < count) × (kept_in cper from count ≡ k ∷ kept_in cper (k.index + 1) count)
+NextKept cper from count (Some i) = (i < count) × (keeps cper i ≡ true) × (kept_in cper from count ≡ told cper i ∷ kept_in cper (i + 1) count)

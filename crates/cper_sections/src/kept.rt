@@ -1,5 +1,5 @@
 // The sections that the descriptors of a CPER tell, and which of them are kept.
-ghost use Rattle.std.specs.Prelude.{◌≡◌, ◌+◌, ◌≤◌, ◌<◌, List, length};
+ghost use Rattle.std.specs.Prelude.{◌≡◌, ◌+◌, ◌^◌, ◌≤◌, ◌<◌, List, length};
 ghost use Rattle.std.specs.Iterator.{YieldsFirst, item_count};
 ghost use Rattle.cper_header.specs.Record.{header_size};
 ghost use Rattle.cper_descr.specs.Descriptor.{descriptor_size};
@@ -16,20 +16,21 @@ const HIGH: u64 = 4294967296;
 // A section: its descriptor's index, its body's offset and length.
 #[derive(Clone, Copy, Debug, PartialEq, Eq)]
 pub struct Section {
-    pub index: u16,
+    pub index: usize,
     pub offset: u32,
     pub size: u32,
 }
 
 // Where the descriptor with an index stands; past the last one, where the bodies of a normal form start.
-pub fn descriptor_at(index: u16) -> usize
+pub fn descriptor_at(index: usize) -> usize
+    requires { descriptor_at index < 2 ^ 64 }
     ensures { result ≡ descriptor_at index }
 {
-    cper_header::RECORD_HEADER_SIZE + cper_descr::SECTION_DESCRIPTOR_SIZE * (index as usize)
+    cper_header::RECORD_HEADER_SIZE + cper_descr::SECTION_DESCRIPTOR_SIZE * index
 }
 
 // The section that the descriptor with an index tells. Its body's offset and length are read as one number, which is one load.
-fn section_told(cper: &[u8], index: u16) -> Section
+fn section_told(cper: &[u8], index: usize) -> Section
     requires { descriptor_at index + descriptor_size ≤ length cper.now }
     ensures { result ≡ told cper.now index }
 {
@@ -42,7 +43,8 @@ fn section_told(cper: &[u8], index: u16) -> Section
 }
 
 // Whether the section with an index is kept.
-fn is_kept(cper: &[u8], index: u16) -> bool
+fn is_kept(cper: &[u8], index: usize) -> bool
+    requires { index < 65536 }
     ensures { result ≡ keeps cper.now index }
 {
     if cper.len() < descriptor_at(index) + cper_descr::SECTION_DESCRIPTOR_SIZE {
@@ -52,13 +54,14 @@ fn is_kept(cper: &[u8], index: u16) -> bool
     (section.offset as usize) + (section.size as usize) <= cper.len()
 }
 
-// The first kept section from an index on, below a count, if there is one.
-fn next_kept(cper: &[u8], from: u16, count: u16) -> Option<Section>
+// The index of the first kept section from an index on, below a count, if there is one.
+fn next_kept(cper: &[u8], from: usize, count: usize) -> Option<usize>
+    requires { count < 65536 }
     ensures { NextKept cper.now from count result }
 {
     for index in from..count {
         if is_kept(cper, index) {
-            return Some(section_told(cper, index));
+            return Some(index);
         }
     }
     None
@@ -68,14 +71,16 @@ fn next_kept(cper: &[u8], from: u16, count: u16) -> Option<Section>
 #[derive(Drop)]
 pub struct Kept<'a> {
     cper: &'a [u8],
-    next: u16,
-    count: u16,
+    next: usize,
+    count: usize,
 }
 
 impl<'a> Model for Kept<'a> {
     ghost Value = { List Section };
 
     ghost view = { λ s. kept_in s.cper.now s.next s.count };
+
+    ghost invariant = { λ s. s.count < 65536 };
 }
 
 impl<'a> Kept<'a> {
@@ -89,7 +94,7 @@ impl<'a> Kept<'a> {
         Kept {
             cper,
             next: 0,
-            count: cper_header::section_count(cper),
+            count: cper_header::section_count(cper) as usize,
         }
     }
 }
@@ -102,8 +107,8 @@ impl<'a> Iterator for Kept<'a> {
     ghost remaining = { item_count (λ s. s) };
 
     fn next(&mut self) -> Option<Section> {
-        let section = next_kept(self.cper, self.next, self.count)?;
-        self.next = section.index + 1;
-        Some(section)
+        let index = next_kept(self.cper, self.next, self.count)?;
+        self.next = index + 1;
+        Some(section_told(self.cper, index))
     }
 }

@@ -1,8 +1,9 @@
 // The kept sections of a UEFI Common Platform Error Record: as a table, and one of them as a part of the input.
 #![tactic(auto)]
 
-ghost use Rattle.std.specs.Prelude.{◌≡◌, ◌+◌, ◌*◌, ◌≤◌, length};
+ghost use Rattle.std.specs.Prelude.{◌≡◌, ◌+◌, ◌*◌, ◌^◌, ◌≤◌, ◌<◌, length};
 ghost use Rattle.std.proofs.lemmas.List.Edits.{sets};
+ghost use Rattle.answers.specs.Numbers.{most_bytes};
 ghost use Rattle.cper_header.specs.Record.{header_size};
 ghost use Rattle.cper_sections.specs.Answers.{number_of, check_of};
 ghost use Rattle.cper_sections.specs.Sections.{kept_of, section_numbers, row_of, listed_in, sections_of, place_in, place_of, part_at};
@@ -60,7 +61,7 @@ pub fn check(cper: &[u8]) -> Result<(), Refusal>
 
 // Writes a section's row.
 fn put_row(table: &mut [u32], row: usize, section: Section)
-    requires { section_numbers * row + section_numbers ≤ length table.old }
+    requires { (section.index < 2 ^ 32) × (section_numbers * row + section_numbers ≤ length table.old) }
     ensures { table.new ≡ sets table.old (section_numbers * row) (row_of section) }
 {
     let at = SECTION_NUMBERS * row;
@@ -71,7 +72,7 @@ fn put_row(table: &mut [u32], row: usize, section: Section)
 
 // Lists the kept sections while rows are free.
 fn list_kept(cper: &[u8], table: &mut [u32]) -> Result<u32, Refusal>
-    requires { header_size ≤ length cper.now }
+    requires { (header_size ≤ length cper.now) × (length cper.now ≤ most_bytes) }
     ensures { (table.new, result) ≡ listed_in table.old (kept_of cper.now) }
 {
     let room = table.len() / SECTION_NUMBERS;

@@ -13,7 +13,9 @@ returns-in_err-check c =
     rw (refused.1, refused.2, sym c.check.ensures ∙ c.in_err-check.was)
 
 pub list_kept-requires : goal.list_kept-requires
-list_kept-requires c = (passes c.args.cper.now (sym c.check.ensures ∙ c.in_ok-check.was)).header
+list_kept-requires c =
+    let p = passes c.args.cper.now (sym c.check.ensures ∙ c.in_ok-check.was) in
+    (p.header, p.short)
 
 pub returns : goal.returns
 unfolding sections_of

@@ -9,8 +9,8 @@ use Rattle.cper_sections.proofs.kept.next_kept.Goals as goal
 pub returns-then-is_kept : goal.returns-then-is_kept
 returns-then-is_kept c =
     let a = c.args in
-    rw c.section_told.ensures
-    (omega arith, c.loop-index.invariant ∙ kept_next a.cper.now c.loop-index.index a.count true (omega arith) (sym c.if-is_kept.ensures))
+    let kept = sym c.if-is_kept.ensures in
+    (omega arith, kept, c.loop-index.invariant ∙ kept_next a.cper.now c.loop-index.index a.count true (omega arith) kept)
 
 pub loop-index-preserved : goal.loop-index-preserved
 loop-index-preserved c =
