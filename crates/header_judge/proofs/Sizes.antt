@@ -12,7 +12,8 @@ use borrow.Author.Tests.{le-ltb, ltb-false, eqb-true, eqb-false}
 use Rattle.std.proofs.Common.{Result, Ok, Err}
 use Rattle.le.specs.Le.{le}
 use Rattle.le.proofs.Laws.{le_lt}
-use Rattle.rules.specs.Rules.{has, legacy_server, legacy_gpu, sizes_in_bytes}
+use Rattle.basics.specs.Bits.{has}
+use Rattle.rules.specs.Rules.{legacy_server, legacy_gpu, sizes_in_bytes}
 use Rattle.header_judge.specs.Version.{header_type}
 use Rattle.header_judge.specs.Head.{legacy, sizes_end, declared_of, type_layout, layout_of, no_size, size_for, count_of, layout_size, size_of, Complete}
 use Rattle.header_judge.specs.Steps.{Measured, HeadBounds}

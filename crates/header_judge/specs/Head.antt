@@ -2,7 +2,8 @@
 use Rattle.std.specs.Prelude.{ℕ, ◌≡◌, ◌+◌, ◌*◌, ◌/◌, ◌%◌, List, [], ◌∷◌, Bool, cond, ◌||◌, eqb, ltb, length, get_or, Option, Some, None, Result, Ok, Err}
 use Rattle.answers.specs.Numbers.{done, bad_header, bad_type, ended}
 use Rattle.le.specs.Le.{le}
-use Rattle.rules.specs.Rules.{has, legacy_server, legacy_gpu, legacy_server_box, sizes_in_bytes, flags_of}
+use Rattle.basics.specs.Bits.{has}
+use Rattle.rules.specs.Rules.{legacy_server, legacy_gpu, legacy_server_box, sizes_in_bytes, flags_of}
 use Rattle.header_judge.specs.Version.{no_word, word_of, ending_of, revision, header_type, record_type}
 use Rattle.header_judge.specs.declared.Layout.{Layout}
 use Rattle.header_judge.specs.declared.Layout.TheVariants.{Zero, One, Two, Three, Four, Five, Six, LegacyServer, LegacyGpu, Bad}

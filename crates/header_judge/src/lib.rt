@@ -10,6 +10,7 @@ ghost use Rattle.header_judge.specs.Head.{legacy, record_size, extended_size, si
 pub mod origin;
 pub mod version;
 
+use basics::has_bit;
 use le::LittleEndian;
 use origin::origin_of;
 use version::{Ending, NO_WORD, ending_of, word_of};
@@ -68,14 +69,14 @@ const BOX: u32 = 0x3d;
 pub fn is_legacy(flags: u32) -> bool
     ensures { result ≡ legacy flags }
 {
-    rules::has_flag(flags, rules::LEGACY_SERVER) | rules::has_flag(flags, rules::LEGACY_GPU)
+    has_bit(flags, rules::LEGACY_SERVER) | has_bit(flags, rules::LEGACY_GPU)
 }
 
 // Whether records stand inside.
 pub fn is_box(word: u32, flags: u32) -> bool
     ensures { result ≡ is_box word flags }
 {
-    (word / 16777216 % 64 == BOX) | rules::has_flag(flags, rules::LEGACY_SERVER_BOX)
+    (word / 16777216 % 64 == BOX) | has_bit(flags, rules::LEGACY_SERVER_BOX)
 }
 
 // The size fields, of which a legacy header has only the record's.
@@ -100,7 +101,7 @@ pub fn in_bytes(units: usize, flags: u32) -> usize
     requires { units ≤ 131070 }
     ensures { (result ≡ units * unit flags) × (result ≤ 524280) }
 {
-    if rules::has_flag(flags, rules::SIZES_IN_BYTES) {
+    if has_bit(flags, rules::SIZES_IN_BYTES) {
         return units;
     }
     units * 4
@@ -161,10 +162,10 @@ pub fn shape_of(s: &[u8], header_type: u32) -> Option<Shape>
 pub fn layout_of(word: u32, flags: u32) -> Layout
     ensures { result ≡ layout_of word flags }
 {
-    if rules::has_flag(flags, rules::LEGACY_SERVER) {
+    if has_bit(flags, rules::LEGACY_SERVER) {
         return Layout::LegacyServer;
     }
-    if rules::has_flag(flags, rules::LEGACY_GPU) {
+    if has_bit(flags, rules::LEGACY_GPU) {
         return Layout::LegacyGpu;
     }
     match shape_of(b"", word / 256 % 16) {

@@ -11,7 +11,8 @@ use denote.Enum.Declared.{declared}
 use denote.Enum.Bare.{same_true, true_same}
 use Rattle.le.specs.Le.{le}
 use Rattle.layout.specs.Fields.{Field, read_all}
-use Rattle.rules.specs.Rules.{has, legacy_server, legacy_gpu}
+use Rattle.basics.specs.Bits.{has}
+use Rattle.rules.specs.Rules.{legacy_server, legacy_gpu}
 use Rattle.header_judge.specs.Version.{header_type}
 use Rattle.header_judge.specs.Head.{legacy, type_layout, layout_of, size_for, count_of}
 use Rattle.header_judge.specs.declared.Layout.{Layout}

@@ -7,7 +7,8 @@ use Prim.Native.Nat.{ℕ, ◌*◌, ◌%◌, ◌≤◌}
 use native.Mathlib.Omega.{arith}
 use lib.ListN.{length}
 use Rattle.std.proofs.Common.{Ok}
-use Rattle.rules.specs.Rules.{has, sizes_in_bytes, rules_of, flags_of, none_has}
+use Rattle.basics.specs.Bits.{has}
+use Rattle.rules.specs.Rules.{sizes_in_bytes, rules_of, flags_of, none_has}
 use Rattle.rules.proofs.Laws.{flags_lack}
 use Rattle.header_judge.specs.Version.{word_of}
 use Rattle.header_judge.specs.Head.{declared_of, head_of}

@@ -12,7 +12,8 @@ use lib.ListN.{length}
 use borrow.Author.Tests.{eqb-true, eqb-false, ne_eqb, leb-true}
 use Rattle.std.specs.List.{fold, list_all}
 use Rattle.basics.proofs.Bools.{both}
-use Rattle.rules.specs.Rules.{has, Rule, row, applies, with_rule, rules_of, with_rules, flags_of, flags_small, valid_of, none_has}
+use Rattle.basics.specs.Bits.{has}
+use Rattle.rules.specs.Rules.{Rule, row, applies, with_rule, rules_of, with_rules, flags_of, flags_small, valid_of, none_has}
 
 -- ---- a valid table
 

@@ -1,5 +1,6 @@
 -- The rule table (document 01, 'Rule table'): the flags that it gives a version word, and when it is valid.
 use Rattle.std.specs.Prelude.{ℕ, ◌/◌, ◌%◌, List, [], ◌∷◌, Bool, true, cond, not, ◌&&◌, eqb, leb, length, get_or}
+use Rattle.basics.specs.Bits.{has}
 use Rattle.std.specs.Int.Bits.{bit_and, bit_or}
 
 -- ---- the four flags
@@ -15,10 +16,6 @@ legacy_server_box = 4
 
 abbrev pub sizes_in_bytes : ℕ
 sizes_in_bytes = 8
-
--- does a flags number have a flag?
-abbrev pub has : ℕ → ℕ → Bool
-has flags flag = eqb (flags / flag % 2) 1
 
 -- ---- rows
 

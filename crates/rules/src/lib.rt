@@ -4,7 +4,7 @@
 
 ghost use Rattle.std.specs.Prelude.{◌≡◌, ◌<◌, ◌/◌, cond, length, map, leb};
 ghost use Rattle.std.specs.List.{list_all};
-ghost use Rattle.rules.specs.Rules.{has, row, rule, rules_of, applies, flags_of, valid_of};
+ghost use Rattle.rules.specs.Rules.{row, rule, rules_of, applies, flags_of, valid_of};
 
 pub mod columns;
 pub mod intel;
@@ -25,12 +25,11 @@ pub const NUMBERS_IN_RULE: usize = 3;
 
 const MOST_ROWS: usize = 64;
 
-// Whether a flags number has a flag.
-pub fn has_flag(flags: u32, flag: u32) -> bool
-    requires { 0 < flag }
-    ensures { result ≡ has flags flag }
+// Whether no flags number of some rows is above 15.
+fn all_small(rows: &[[u32; NUMBERS_IN_RULE]]) -> bool
+    ensures { result ≡ list_all (λ numbers. leb (row numbers).flags 15) rows.now }
 {
-    flags / flag % 2 == 1
+    rows.iter().all(|[_, _, flags]| *flags <= EVERY_FLAG)
 }
 
 // The whole rows of a table.
@@ -39,13 +38,6 @@ pub fn rows_of(rules: &[u32]) -> &[[u32; NUMBERS_IN_RULE]]
     ensures many { length result.now ≡ length rules.now / 3 }
 {
     rules.as_chunks().0
-}
-
-// Whether no flags number of some rows is above 15.
-fn all_small(rows: &[[u32; NUMBERS_IN_RULE]]) -> bool
-    ensures { result ≡ list_all (λ numbers. leb (row numbers).flags 15) rows.now }
-{
-    rows.iter().all(|[_, _, flags]| *flags <= EVERY_FLAG)
 }
 
 // Whether a table has whole rows, at most 64, and no flags number above 15.
