@@ -108,7 +108,7 @@ impl Page<'_> {
         self.count(b" tries ", listing.tries);
         self.text(b" whole ");
         self.whole(listing.whole);
-        self.count(b" answer ", region::number_of(listing.answer) as u64);
+        self.count(b" answer ", u64::from(u32::from(listing.answer)));
         self.text(b"\n");
     }
 }
