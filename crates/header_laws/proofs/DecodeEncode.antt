@@ -38,7 +38,7 @@ use Rattle.header_laws.proofs.Version.{version_word, word_lt}
 use Rattle.header_laws.proofs.Layouts.{shape_for, shape_read, is_legacy, legacy_layout, sizes_within, same_layout}
 use Rattle.header_laws.proofs.Numbers.{Parts, parts, header_with, parts_from, parts_at, parts_read, header_read, parts_values, below_values}
 use Rattle.header_laws.proofs.Agree.{record_decoded}
-use Rattle.header_laws.proofs.Encoded.{encoded_is}
+use Rattle.header_encode.proofs.Encoded.{encoded_is}
 
 -- the size fields end past the first 8 bytes
 size_least : (b : Bool) {size : ℕ} → cond b 18 8 ≤ size → 8 ≤ size

@@ -33,7 +33,7 @@ use Rattle.header_laws.proofs.Numbers.{Parts, header_with, parts_at, header_read
 use Rattle.header_laws.proofs.Unread.{fits_read, values_read, unread_bytes}
 use Rattle.header_laws.proofs.Done.{Known, done_known, known_decoded}
 use Rattle.header_laws.proofs.Agree.{header_size_decoded}
-use Rattle.header_laws.proofs.Encoded.{encoded_is}
+use Rattle.header_encode.proofs.Encoded.{encoded_is}
 
 -- the fields of a word are within their bits
 version_fits_lem : (word : ℕ) → version_fits (version_of word) ≡ true

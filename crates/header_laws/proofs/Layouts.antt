@@ -1,4 +1,4 @@
--- What holds of every layout: which one a header's fields are of, what a count decides, which ones are legacy, and that a number tells it.
+-- What holds of every layout: which one a header's fields are of, what a count decides, which ones are legacy, and when two are the same.
 -- Layout for layout. Assumes nothing.
 use mathlib.Core.Path.{◌≡◌, refl, ap}
 use mathlib.Core.Bool.{Bool, true, false, cond, ◌||◌}

@@ -3,7 +3,6 @@ pub mod Layouts
 pub mod Numbers
 pub mod Unread
 pub mod Done
-pub mod Encoded
 pub mod Version
 pub mod Agree
 pub mod DecodeEncode

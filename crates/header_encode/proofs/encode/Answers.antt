@@ -1,13 +1,14 @@
 -- `encode` writes a header's bytes, or refuses and writes nothing.
 -- What is written of a header that can be encoded is the table's bytes. Assumes nothing.
-use mathlib.Core.Path.{◌≡◌, sym, ◌∙◌}
-use Prim.Native.Nat.{◌≤◌}
+use mathlib.Core.Path.{◌≡◌, sym, ap₂, ◌∙◌}
+use mathlib.Core.List.{List}
+use Prim.Native.Nat.{ℕ, ◌≤◌}
 use native.Mathlib.Omega.{arith}
 use lib.ListN.{length}
-use borrow.Author.Tests.{le-leb}
+use Rattle.std.specs.Prelude.{Ok}
 use Rattle.header.specs.Access.{header_size}
-use Rattle.header_encode.specs.Encode.{encoded_of}
 use Rattle.header_encode.proofs.Fitting.{in_bits, can_version, can_fit, can_count}
+use Rattle.header_encode.proofs.Encoded.{encoded_is}
 use Rattle.header_encode.proofs.Tables.{written_bytes}
 use Rattle.header_encode.proofs.encode.Goals as goal
 
@@ -19,7 +20,6 @@ put_header-requires c =
     record { room = omega arith; bits = in_bits a.header.version (can_version a.rules.now a.header can); fit = can_fit a.rules.now a.header can }
 
 pub returns : goal.returns
-unfolding encoded_of
 returns c =
     let a = c.args in
     let good = sym c.valid.ensures ∙ c.if-not-valid.false in
@@ -29,5 +29,5 @@ returns c =
     -- what its type says of the header's last field
     let words : length a.header.completion_statuses ≡ 127 = omega (arith, c.well_formed) in
     let few = can_count a.rules.now a.header can in
-    rw (good, can, le-leb (header_size a.header.header_type) (length a.out.now) room, size, c.put_header.ensures)
-    (rw (written_bytes a.header a.out.now (omega arith) room))
+    ap₂ (λ (end : List ℕ) (n : ℕ). (end, Ok n)) (c.put_header.ensures ∙ written_bytes a.header a.out.now (omega arith) room) size
+    ∙ sym (encoded_is a.rules.now good a.header can a.out.now room)
