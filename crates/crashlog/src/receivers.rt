@@ -58,7 +58,7 @@ pub fn crashlog_receiver_finish(
     match receiver::finish(state, &receiver.rules, &receiver.kept, spans) {
         Ok(listing) => {
             *told = region::listing_told(listing);
-            region::number_of(listing.answer)
+            u32::from(listing.answer)
         }
         Err(refusal) => {
             *told = [0; 5];

@@ -6,7 +6,6 @@ ghost use Rattle.region_rows.specs.Rows.{width};
 ghost use Rattle.region.specs.Listing.{number_of, type_of, answer_without, answer_of, listing_told, refusal, listing_at, listed};
 
 use answers::MOST_BYTES;
-use header_judge::version::bit_of;
 use region_rows::TOP;
 use region_try::Cut;
 use region_try::stop::Stop;
@@ -80,13 +79,6 @@ impl From<Answer> for u32 {
     }
 }
 
-// The same by a name.
-pub fn number_of(answer: Answer) -> u32
-    ensures { (result ≡ number_of answer) × (result < 9) }
-{
-    answer.into()
-}
-
 // The type that comes with a bad type, else 0.
 pub fn type_of(answer: Answer) -> u32
     ensures { result ≡ type_of answer }
@@ -105,7 +97,7 @@ pub fn listing_told(listing: Listing) -> [u64; 5]
         listing.rows as u64,
         listing.tries,
         type_of(listing.answer) as u64,
-        bit_of(listing.whole) as u64,
+        u64::from(listing.whole),
         u32::from(listing.stop) as u64,
     ]
 }
