@@ -58,10 +58,10 @@ module _ (cper id : List ℕ) (b : Bounds) where
 
   pub walk_none : (m : Walk) → walk [] m ≡ m
   unfolding regions_in
-  walk_none m = joined_none b.limit b.room b.rules m
+  walk_none m = joined_none b.limit b.room b.rules.now m
 
   walk_cut : (ks : List Section) (m : Walk) → (m.1.cut ≡ Going → ⊥) → walk ks m ≡ m
-  walk_cut ks m cut = run_cut b.limit b.room (joined_tries b.rules (regions_in cper id ks) m.1.rows) m cut
+  walk_cut ks m cut = run_cut b.limit b.room (joined_tries b.rules.now (regions_in cper id ks) m.1.rows) m cut
 
   module _ (k : Section) (m : Walk) where
     pub walk_unopened : (ks : List Section) → is_opened cper id k ≡ false → walk (k ∷ ks) m ≡ walk ks m
@@ -69,9 +69,9 @@ module _ (cper id : List ℕ) (b : Bounds) where
     walk_unopened ks e = rw e
 
     walk_opened : (ks : List Section) → is_opened cper id k ≡ true
-        → walk (k ∷ ks) m ≡ walk ks (alone b.limit b.room b.rules (region_of cper k) m)
+        → walk (k ∷ ks) m ≡ walk ks (alone b.limit b.room b.rules.now (region_of cper k) m)
     unfolding regions_in
-    walk_opened ks e = rw e (joined_cons b.limit b.room b.rules (region_of cper k) (regions_in cper id ks) m)
+    walk_opened ks e = rw e (joined_cons b.limit b.room b.rules.now (region_of cper k) (regions_in cper id ks) m)
 
     -- the counts of the walk of its region
     pub walk_region : is_opened cper id k ≡ true → {bytes : List ℕ} → bytes ≡ (region_of cper k).bytes

@@ -15,4 +15,4 @@ pub record Openable (cper : List ℕ) (b : Bounds) (spans : List ℕ) : Type 0 w
 
 -- the regions of some sections, walked from where a walk stands
 abbrev pub sections_run : List ℕ → List ℕ → Bounds → List Section → Walk → Walk
-sections_run cper id b ks m = run b.limit b.room (joined_tries b.rules (regions_in cper id ks) m.1.rows) m
+sections_run cper id b ks m = run b.limit b.room (joined_tries b.rules.now (regions_in cper id ks) m.1.rows) m

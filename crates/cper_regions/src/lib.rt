@@ -104,7 +104,8 @@ pub fn list_cper(
     if MOST_BYTES < cper.len() {
         return region::refused(Answer::TooLong);
     }
-    let Some(table) = Columns::of(rules) else {
+    let columns = Columns::of(rules);
+    let Some(table) = &columns else {
         return region::refused(Answer::BadRules);
     };
     if !cper_header::is_cper(cper) {

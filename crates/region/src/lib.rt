@@ -137,7 +137,8 @@ pub fn list(region: &[u8], rules: &[u32], limit: u64, spans: &mut [u32]) -> List
     if MOST_BYTES < region.len() {
         return refused(Answer::TooLong);
     }
-    let Some(table) = Columns::of(rules) else {
+    let columns = Columns::of(rules);
+    let Some(table) = &columns else {
         return refused(Answer::BadRules);
     };
     let bounds = Bounds::new(table, limit, spans);

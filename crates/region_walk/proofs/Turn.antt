@@ -86,7 +86,7 @@ pub record Place : Type 0 where
 -- the place of a walk
 abbrev pub placed : List ℕ → Bounds → ℕ → ℕ → ℕ → Place
 placed bytes b base levels parent =
-    record { rules = b.rules; bytes = bytes; base = base; levels = levels; parent = parent; limit = b.limit; room = b.room }
+    record { rules = b.rules.now; bytes = bytes; base = base; levels = levels; parent = parent; limit = b.limit; room = b.room }
 
 module _ (p : Place) where
   -- the bytes from a position on

@@ -53,9 +53,9 @@ region_end limit room levels vs m = end_where (stands_in levels vs) (run limit r
 
 -- the tries of a region
 abbrev pub region_run : Bounds → ℕ → List ℕ → ℕ → ℕ → Walk → List ℕ × Walked
-region_run b levels bytes base parent m = region_end b.limit b.room levels (region_tries b.rules levels bytes base parent m.1.rows) m
+region_run b levels bytes base parent m = region_end b.limit b.room levels (region_tries b.rules.now levels bytes base parent m.1.rows) m
 
 -- the tries inside a Box whose row is the last, from the table, the tries and `whole` before it is opened
 abbrev pub box_run : Bounds → ℕ → List ℕ → ℕ → ℕ → ℕ → List ℕ → ℕ → Bool → Walk
 box_run b levels held base size row t tries whole =
-    run b.limit b.room (box_tries b.rules levels held base size row) (going t (row + 1) tries (box_whole levels size (length held) whole))
+    run b.limit b.room (box_tries b.rules.now levels held base size row) (going t (row + 1) tries (box_whole levels size (length held) whole))

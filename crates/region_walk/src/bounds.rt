@@ -7,18 +7,18 @@ use rules::columns::Columns;
 
 // The rule table, the limit of tries, and the rows that there is room for. The ghost field tells a walk, which has the room behind a
 // reference, that it fits its type.
-#[derive(Drop)]
-pub struct Bounds {
-    pub rules: Columns,
+#[derive(Clone, Copy)]
+pub struct Bounds<'a> {
+    pub rules: &'a Columns,
     pub limit: u64,
     pub room: u32,
     pub ghost fits: { room < 2 ^ 32 },
 }
 
-impl Bounds {
+impl<'a> Bounds<'a> {
     // Those of a walk by some rules and under a limit into a table.
-    pub fn new(rules: Columns, limit: u64, spans: &[u32]) -> Bounds
-        ensures rules_are { result.rules ≡ rules }
+    pub fn new(rules: &'a Columns, limit: u64, spans: &[u32]) -> Bounds<'a>
+        ensures rules_are { result.rules.now ≡ rules.now }
         ensures limit_is { result.limit ≡ limit }
         ensures room_is { result.room ≡ min (capacity spans.now) most_rows }
     {

@@ -21,13 +21,13 @@ returns-then-cper-gt-MOST_BYTES-clause-result_after c =
 pub returns-in_default-clause-result_after : goal.returns-in_default-clause-result_after
 returns-in_default-clause-result_after c =
     let a = c.args in
-    let bad : valid_of a.rules.now ≡ false = grind (arith, c.in_default.is, c.of.ensures) in
+    let bad : valid_of a.rules.now ≡ false = grind (arith, c.in_default.is, c.of-columns.ensures) in
     rw c.refused-in_default.ensures (listed_rules a.rules.now a.cper.now a.record_id.now a.limit a.spans.now (omega arith) bad)
 
 pub returns-then-not-is_cper-clause-result_after : goal.returns-then-not-is_cper-clause-result_after
 returns-then-not-is_cper-clause-result_after c =
     let a = c.args in
-    let good = cond_some (valid_of a.rules.now) a.rules.now c.in-Some.table (sym c.in-Some.ensures) in
+    let good = cond_some (valid_of a.rules.now) a.rules.now c.in-Some.table (sym c.of-columns.ensures ∙ c.in-Some.is) in
     let other : is_cper a.cper.now ≡ false = sym c.is_cper.ensures ∙ c.if-not-is_cper.true in
     rw c.refused-then-not-is_cper.ensures (listed_header a.rules.now a.cper.now a.record_id.now a.limit a.spans.now (omega arith) good.0 other)
 
@@ -44,7 +44,7 @@ pub returns : goal.returns
 unfolding regions_of
 returns c =
     let a = c.args in
-    let good = cond_some (valid_of a.rules.now) a.rules.now c.in-Some.table (sym c.in-Some.ensures) in
+    let good = cond_some (valid_of a.rules.now) a.rules.now c.in-Some.table (sym c.of-columns.ensures ∙ c.in-Some.is) in
     let is : is_cper a.cper.now ≡ true = sym c.is_cper.ensures ∙ c.if-not-is_cper.false in
     let made = c.new-bounds.ensures in
     let y = c.walk_sections-end in

@@ -1,6 +1,6 @@
 -- `list` gives the listing, whose rows fit the table.
 -- The walk from the top, its answer and its mark are those of the definition. Assumes nothing.
-use mathlib.Core.Path.{◌≡◌, sym}
+use mathlib.Core.Path.{◌≡◌, sym, ◌∙◌}
 use mathlib.Core.Bool.{false}
 use mathlib.Core.List.{List}
 use Prim.Native.Nat.{ℕ}
@@ -20,13 +20,13 @@ returns-then-region-gt-MOST_BYTES-clause-result_after c =
 pub returns-in_default-clause-result_after : goal.returns-in_default-clause-result_after
 returns-in_default-clause-result_after c =
     let a = c.args in
-    let bad : valid_of a.rules.now ≡ false = grind (arith, c.in_default.is, c.of.ensures) in
+    let bad : valid_of a.rules.now ≡ false = grind (arith, c.in_default.is, c.of-columns.ensures) in
     rw c.refused-in_default.ensures (listed_rules a.rules.now a.region.now a.limit a.spans.now (omega arith) bad)
 
 pub returns : goal.returns
 returns c =
     let a = c.args in
-    let good = cond_some (valid_of a.rules.now) a.rules.now c.in-Some.table (sym c.in-Some.ensures) in
+    let good = cond_some (valid_of a.rules.now) a.rules.now c.in-Some.table (sym c.of-columns.ensures ∙ c.in-Some.is) in
     let made = c.new-bounds.ensures in
     let y = c.region_walk in
     let e : ◌≡◌ {A = List ℕ × Listing} (y.new.spans, c.listing_at.result) (listed a.rules.now a.region.now a.limit a.spans.now) =

@@ -24,7 +24,7 @@ box_walk-returns-then-levels-eq0 t c =
     let a = c.args in
     rw (box_shut a.whole a.levels a.size (length a.held.now) (omega arith))
     (run_empty a.bounds.now.limit a.bounds.now.room _ (going a.spans.now (a.row + 1) a.tries a.whole)
-    (box_deep a.bounds.now.rules a.levels a.held.now a.base a.size a.row (omega arith)))
+    (box_deep a.bounds.now.rules.now a.levels a.held.now a.base a.size a.row (omega arith)))
 
 pub box_walk-returns-then-held-size : goal.box_walk-returns-then-held-size
 box_walk-returns-then-held-size t c =
@@ -32,13 +32,13 @@ box_walk-returns-then-held-size t c =
     let n = length a.held.now in
     rw (box_header a.whole a.levels a.size n (omega arith) c.requires.0.deep)
     (run_empty a.bounds.now.limit a.bounds.now.room _ (going a.spans.now (a.row + 1) a.tries (a.whole && leb a.size n))
-    (box_short a.bounds.now.rules a.levels a.held.now a.base a.size a.row (omega arith)))
+    (box_short a.bounds.now.rules.now a.levels a.held.now a.base a.size a.row (omega arith)))
 
 pub box_walk-returns : goal.box_walk-returns
 box_walk-returns t c =
     let a = c.args in
     rw (c.counts.ensures, box_opens a.whole a.levels a.size (length a.held.now) (omega arith) c.requires.0.deep (omega arith))
-    (child_counts a.bounds.now.rules a.bounds.now.limit a.bounds.now.room a.levels a.held.now a.base a.size a.row
+    (child_counts a.bounds.now.rules.now a.bounds.now.limit a.bounds.now.room a.levels a.held.now a.base a.size a.row
     (going a.spans.now (a.row + 1) a.tries a.whole) (omega arith) (omega arith)
     (rw (tail_part a.held.now a.size) at c.region_walk-child.ensures))
 
@@ -60,7 +60,7 @@ region_walk-returns-then-bounds-tries t c =
 -- the flags of a turn's word
 module _ (t : ℕ) (c : region_walk-Joined-word-last t) where
   abbrev table : List ℕ
-  table = c.args.bounds.now.rules
+  table = c.args.bounds.now.rules.now
 
   -- they are remembered with the word
   memory : (c.if-word-last.last ≡ c.word_of-word.result) × Known table c.word_of-word.result c.if-word-last.known
@@ -78,7 +78,7 @@ module _ (t : ℕ) (c : region_walk-Joined-word-last t) where
   kept n = memory.1 (λ e. n (memory.0 ∙ e)) ∙ ap (flags_of table) (sym memory.0)
 
 -- the try of a turn that finds a record
-module _ (t : ℕ) (c : region_walk-In-Row t) (flags : Known c.args.bounds.now.rules c.word_of-word.result c.if-word-last.known) where
+module _ (t : ℕ) (c : region_walk-In-Row t) (flags : Known c.args.bounds.now.rules.now c.word_of-word.result c.if-word-last.known) where
   abbrev place : Place
   place = placed c.args.bytes.now c.args.bounds.now c.args.base c.args.levels c.args.parent
 
