@@ -9,7 +9,7 @@ pub mod access;
 pub mod fields;
 
 use fields::{fields_of, statuses_of};
-use header_judge::version::{Ending, Version, ending_number};
+use header_judge::version::{Ending, Version};
 use header_judge::{NoRecord, RecordSize};
 
 // The fields that most layouts share.
@@ -145,7 +145,7 @@ impl Refusal {
         ensures { result ≡ ending_told self }
     {
         match self {
-            Refusal::Ended(ending) => ending_number(ending),
+            Refusal::Ended(ending) => u32::from(ending),
             _ => 0,
         }
     }

@@ -59,14 +59,15 @@ pub fn ending_of(s: &[u8]) -> Ending
     Ending::ZeroWord
 }
 
-// The number of an ending.
-pub fn ending_number(ending: Ending) -> u32
-    ensures { result ≡ ending_number ending }
-{
-    match ending {
-        Ending::ZeroWord => stops::ZERO_WORD,
-        Ending::DeadbeefWord => stops::DEADBEEF_WORD,
-        Ending::FewBytes => stops::FEW_BYTES,
+impl From<Ending> for u32 {
+    ghost from_gives = { λ ending number. number ≡ ending_number ending };
+
+    fn from(ending: Ending) -> u32 {
+        match ending {
+            Ending::ZeroWord => stops::ZERO_WORD,
+            Ending::DeadbeefWord => stops::DEADBEEF_WORD,
+            Ending::FewBytes => stops::FEW_BYTES,
+        }
     }
 }
 

@@ -13,7 +13,7 @@ use crate::piece::Moved;
 use crate::{KEPT, State};
 use header_judge::version::word_of;
 use header_judge::{NoRecord, Summary};
-use region::Listing;
+use region::{Answer, Listing};
 use region_rows::TOP;
 use region_try::Cut;
 use region_try::stop::{Stop, clean_stop, stop_at};
@@ -34,7 +34,7 @@ fn listing_at(
         answer,
         rows: written,
         tries,
-        whole: (region::number_of(answer) == answers::DONE) & whole,
+        whole: (answer == Answer::Done) & whole,
         stop,
     }
 }
