@@ -15,7 +15,6 @@ pub mod piece;
 pub mod refusal;
 
 use answers::MOST_BYTES;
-use front::Front;
 use header_judge::version::bit_of;
 use last::last;
 use lookup::Lookup;
@@ -101,6 +100,7 @@ impl State {
     }
 
     // The rules, with what the kept bytes tell, where a call can go on from them: where no record of them is all in.
+    #[inline(always)]
     fn see<'a>(self, rules: &'a [u32; NUMBERS], kept: &[u8]) -> Option<Lookup<'a>>
         requires { length kept.now ≡ 536 }
         ensures usable { is_some result ≡ usable self rules.now kept.now }
@@ -126,14 +126,15 @@ impl State {
 }
 
 // What `held` bytes tell, by those that are kept, where no record of them is all in.
-fn see_kept<'a>(held: usize, lookup: Lookup<'a>, kept: &[u8]) -> Option<Lookup<'a>>
+#[inline(never)]
+fn see_kept<'a>(held: usize, mut lookup: Lookup<'a>, kept: &[u8]) -> Option<Lookup<'a>>
     requires { length kept.now ≡ 536 }
     ensures waits { is_some result ≡ eqb (bytes_in held (head_of (rules_of lookup.entry) (take held kept.now))) 0 }
     ensures lookup { IfSome result (λ l. SameRules l lookup.entry) }
 {
-    let front = Front::read(&kept[..held.min(KEPT)], lookup);
+    let front = lookup.read(&kept[..held.min(KEPT)]);
     if front.bytes_in(held) == 0 {
-        return Some(front.lookup);
+        return Some(lookup);
     }
     None
 }

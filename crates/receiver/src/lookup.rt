@@ -3,7 +3,8 @@ ghost use Rattle.std.specs.Prelude.{◌*◌, ◌≤◌};
 ghost use Rattle.rules.specs.Columns.{rules_in};
 ghost use Rattle.header_judge.specs.Steps.{Known};
 
-use header_judge::version::NO_WORD;
+use crate::front::Front;
+use header_judge::version::{NO_WORD, word_of};
 use rules::columns::NUMBERS;
 
 // The rules are the rows of some blocks of a table's columns.
@@ -19,6 +20,8 @@ pub struct Lookup<'a> {
 
 impl<'a> Lookup<'a> {
     ghost use Rattle.std.specs.Prelude.{◌≡◌};
+    ghost use Rattle.header_judge.specs.Head.{head_of};
+    ghost use Rattle.receiver.specs.Fronts.{head_in};
     ghost use Rattle.receiver.specs.Lookups.{rules_of, SameRules};
 
     // One that has looked up no word.
@@ -35,8 +38,8 @@ impl<'a> Lookup<'a> {
     }
 
     // The flags of a word. With no rules they wait for no byte of it.
-    fn flags_of(self, word: u32) -> u32
-        ensures { Known (rules_of self.entry) word result }
+    pub fn flags_of(&self, word: u32) -> u32
+        ensures { Known (rules_of self.now) word result }
     {
         if self.blocks == 0 {
             return 0;
@@ -47,15 +50,19 @@ impl<'a> Lookup<'a> {
         rules::columns::flags_in(self.rules, self.blocks, word)
     }
 
-    // The same with the flags of a word.
-    pub fn with_word(self, word: u32) -> Lookup<'a>
-        ensures { SameRules result self.entry × (result.word ≡ word) }
+    // Reads the header that some bytes start with.
+    pub fn read<'b>(&mut self, bytes: &'b [u8]) -> Front<'b>
+        ensures { (head_in result ≡ head_of (rules_of self.old) bytes.now) × SameRules self.new self.old }
     {
-        Lookup {
-            rules: self.rules,
-            blocks: self.blocks,
+        let word = word_of(bytes);
+        let flags = self.flags_of(word);
+        self.word = word;
+        self.flags = flags;
+        Front {
+            bytes,
             word,
-            flags: self.flags_of(word),
+            flags,
+            size: header_judge::size_of(bytes, word, flags),
         }
     }
 }

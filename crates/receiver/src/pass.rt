@@ -3,7 +3,6 @@ ghost use Rattle.std.specs.Prelude.{◌≡◌, length};
 ghost use Rattle.receiver.specs.Lookups.{rules_of};
 ghost use Rattle.receiver.specs.Steps.{HasRoom, pass_of};
 
-use crate::front::Front;
 use crate::lookup::Lookup;
 use crate::piece::Moved;
 
@@ -15,13 +14,12 @@ pub fn pass(bytes: &[u8], mut lookup: Lookup, mut moved: Moved, spans: &mut [u32
     let mut rest = bytes;
     // A step is as long as a record declares, so no index counts.
     while !rest.is_empty() {
-        let front = Front::read(rest, lookup);
+        let front = lookup.read(rest);
         let declared = front.bytes_in(rest.len());
         if declared == 0 {
             return moved;
         }
-        moved = front.put(declared, rest.len(), moved, spans);
-        lookup = front.lookup;
+        front.put(declared, rest.len(), &mut moved, spans);
         rest = &rest[declared..];
     }
     moved

@@ -6,7 +6,6 @@ ghost use Rattle.receiver.specs.Calls.{kept_of};
 ghost use Rattle.receiver.specs.Steps.{HasRoom, bytes_in, moved_of, came_bytes};
 
 use crate::KEPT;
-use crate::front::Front;
 use crate::lookup::Lookup;
 use crate::pass::pass;
 
@@ -89,7 +88,7 @@ fn take_in(held: usize, piece: &[u8], kept: &mut [u8]) -> usize
 // its record, but where the record is smaller than what was held of its header.
 pub fn after_held(
     held: usize,
-    lookup: Lookup,
+    mut lookup: Lookup,
     from: Moved,
     piece: &[u8],
     kept: &mut [u8],
@@ -102,16 +101,16 @@ pub fn after_held(
 {
     let came = held + piece.len();
     let len = take_in(held, piece, kept);
-    let front = Front::read(&kept[..len], lookup);
+    let front = lookup.read(&kept[..len]);
     let declared = front.bytes_in(came);
     if declared == 0 {
         return from;
     }
-    let lookup = front.lookup;
     if declared < held {
         return walk_joined(held, lookup, from, piece, kept, spans);
     }
-    let next = front.put(declared, came, from, spans);
+    let mut moved = from;
+    front.put(declared, came, &mut moved, spans);
     let start = declared - held;
-    walk_on(&piece[start..], lookup, next, kept, spans)
+    walk_on(&piece[start..], lookup, moved, kept, spans)
 }

@@ -17,8 +17,8 @@ span_of-span-requires c =
     let size = (a.self.measured (rw a.self.sized all.sized)).most in
     (omega arith, rw (c.summary_of-summary.ensures, ← all.declares) c.requires.all_in.2, rw (c.summary_of-summary.ensures, ← a.self.sized) size)
 
-pub overflow_add-result-2 : goal.overflow_add-result-2
-overflow_add-result-2 c =
+pub overflow_add-moved-2 : goal.overflow_add-moved-2
+overflow_add-moved-2 c =
     let a = c.args in
     let fits = (record_in a.self a.left a.declared c.requires.all_in.0 c.requires.all_in.1).fits in
     omega arith
@@ -27,4 +27,4 @@ pub returns : goal.returns
 returns c =
     let a = c.args in
     rw (c.put.ensures, c.span_of-span.ensures, c.summary_of-summary.ensures)
-    (put_in a.self a.left a.declared c.requires.all_in.0 c.requires.all_in.1 a.from a.spans.now c.is_box.result c.is_box.ensures)
+    (put_in a.self a.left a.declared c.requires.all_in.0 c.requires.all_in.1 a.moved.now a.spans.now c.is_box.result c.is_box.ensures)

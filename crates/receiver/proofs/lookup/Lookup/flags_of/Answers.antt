@@ -13,4 +13,4 @@ unfolding flags_of with_rules rules_of rules_from
 no_flags columns blocks word e = rw e
 
 pub returns-then-self-eq0 : goal.returns-then-self-eq0
-returns-then-self-eq0 c = λ n. no_flags c.args.self.rules.now c.args.self.blocks c.args.word c.if-self-eq0.true
+returns-then-self-eq0 c = λ n. no_flags c.args.self.now.rules.now c.args.self.now.blocks c.args.word c.if-self-eq0.true
