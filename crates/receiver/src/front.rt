@@ -43,11 +43,7 @@ impl<'a> Front<'a> {
         ensures { (spans.new, moved.new) ≡ put_of (try_of 0 top moved.old.offset left (head_in self.entry)) moved.old spans.old }
     {
         let summary = header_judge::summary_of(
-            self.bytes,
-            self.word,
-            self.flags,
-            declared,
-            self.size,
+            self.bytes, self.word, self.flags, declared, self.size,
         );
         let span = region_try::span_of(0, TOP, moved.offset, left, summary);
         region_rows::put(spans, moved.rows as usize, span);

@@ -1,11 +1,11 @@
 // The receiver of a region that comes in pieces: start, feed and finish. The state is a value; the rules and the kept bytes are lent.
 #![tactic(auto)]
 
-ghost use Rattle.std.specs.Prelude.{◌≡◌, true, ◌++◌, ◌*◌, ◌≤◌, eqb, length, take, is_some, IfSome};
+ghost use Rattle.std.specs.Prelude.{◌≡◌, true, ◌≤◌, eqb, length, take, is_some, IfSome};
 ghost use Rattle.header_judge.specs.Head.{head_of};
 ghost use Rattle.receiver.specs.Lookups.{rules_of, SameRules};
-ghost use Rattle.receiver.specs.Steps.{bytes_in, moved_of};
-ghost use Rattle.receiver.specs.Calls.{shut_down, in_bounds, sound, held_in, waiting_of, rules_at, usable, start_out, taken_in, feed_out, finish_out};
+ghost use Rattle.receiver.specs.Steps.{bytes_in, taken_of};
+ghost use Rattle.receiver.specs.Calls.{shut_down, in_bounds, sound, held_in, usable, start_out, feed_out, finish_out};
 
 pub mod front;
 pub mod last;
@@ -162,7 +162,7 @@ pub fn start(rules: &[u32]) -> Result<Receiver, Refusal>
     })
 }
 
-// A piece that is taken.
+// A piece that is taken: how far it moves the walk.
 fn take_piece(
     state: State,
     lookup: Lookup,
@@ -170,20 +170,22 @@ fn take_piece(
     kept: &mut [u8],
     spans: &mut [u32],
 ) -> Moved
-    requires state { (usable state lookup.rules.now kept.old ≡ true) × (lookup.blocks ≡ state.rule_blocks) }
-    requires room { (length piece.now ≤ 64) × (length kept.old ≡ 536) × (6000 ≤ length spans.old) }
-    ensures { (kept.new, spans.new, result) ≡ moved_of (rules_of lookup.entry) ((waiting_of state kept.old).bytes ++ piece.now) (record { rows = 0; offset = state.offset; whole = eqb state.whole 1 }) (taken_in (held_in state) ((waiting_of state kept.old).bytes ++ piece.now) kept.old) spans.old }
+    requires usable { (usable state lookup.rules.now kept.old ≡ true) × (lookup.blocks ≡ state.rule_blocks) }
+    requires lengths { (length piece.now ≤ 64) × (length kept.old ≡ 536) × (6000 ≤ length spans.old) }
+    ensures { (kept.new, spans.new, result) ≡ taken_of (rules_of lookup.entry) state piece.now kept.old spans.old }
 {
-    let from = Moved {
+    let mut moved = Moved {
         rows: 0,
         offset: state.offset as usize,
         whole: state.whole == 1,
     };
     let held = state.held();
     if held == 0 {
-        return walk_on(piece, lookup, from, kept, spans);
+        walk_on(piece, lookup, &mut moved, kept, spans);
+    } else {
+        after_held(held, lookup, &mut moved, piece, kept, spans);
     }
-    after_held(held, lookup, from, piece, kept, spans)
+    moved
 }
 
 // Takes a piece: the rows that are all in with it go to the table's start. How many they are.

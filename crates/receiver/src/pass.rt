@@ -7,9 +7,9 @@ use crate::lookup::Lookup;
 use crate::piece::Moved;
 
 // The records of some bytes that are all in, one after the other, from where the walk stands.
-pub fn pass(bytes: &[u8], mut lookup: Lookup, mut moved: Moved, spans: &mut [u32]) -> Moved
-    requires { HasRoom moved (length bytes.now) spans.old }
-    ensures { (spans.new, result) ≡ pass_of (rules_of lookup.entry) bytes.now moved spans.old }
+pub fn pass(bytes: &[u8], mut lookup: Lookup, moved: &mut Moved, spans: &mut [u32])
+    requires { HasRoom moved.old (length bytes.now) spans.old }
+    ensures { (spans.new, moved.new) ≡ pass_of (rules_of lookup.entry) bytes.now moved.old spans.old }
 {
     let mut rest = bytes;
     // A step is as long as a record declares, so no index counts.
@@ -17,10 +17,9 @@ pub fn pass(bytes: &[u8], mut lookup: Lookup, mut moved: Moved, spans: &mut [u32
         let front = lookup.read(rest);
         let declared = front.bytes_in(rest.len());
         if declared == 0 {
-            return moved;
+            return;
         }
-        front.put(declared, rest.len(), &mut moved, spans);
+        front.put(declared, rest.len(), moved, spans);
         rest = &rest[declared..];
     }
-    moved
 }

@@ -28,28 +28,28 @@ here rules held kept piece long len taken h n t =
 pub returns-then-declared-eq0 : goal.returns-then-declared-eq0
 returns-then-declared-eq0 c =
     let a = c.args in
-    let long = c.requires.short.1 in
+    let long = c.requires.lengths.1 in
     let taken = c.take_in-len in
     let read = c.read-front in
     let head = here (rules_of a.lookup) a.held a.kept.now a.piece.now long taken.result taken.new.kept read.ensures.0 taken.ensures.count taken.ensures.kept_after in
     let none = ap (bytes_in (a.held + length a.piece.now)) (sym head) ∙ sym c.bytes_in-declared.ensures.0 ∙ c.if-declared-eq0.true in
-    rw taken.ensures.kept_after (none_then (rules_of a.lookup) a.held a.kept.now a.piece.now long a.from a.spans.now none)
+    rw taken.ensures.kept_after (none_then (rules_of a.lookup) a.held a.kept.now a.piece.now long a.moved.now a.spans.now none)
 
-pub walk_joined-requires-clause-short : goal.walk_joined-requires-clause-short
-walk_joined-requires-clause-short c =
+pub walk_joined-requires-clause-lengths : goal.walk_joined-requires-clause-lengths
+walk_joined-requires-clause-lengths c =
     let a = c.args in
-    let long = c.requires.short.1 in
+    let long = c.requires.lengths.1 in
     let taken = c.take_in-len in
     let read = c.read-front in
     let head = here (rules_of a.lookup) a.held a.kept.now a.piece.now long taken.result taken.new.kept read.ensures.0 taken.ensures.count taken.ensures.kept_after in
     let are = c.bytes_in-declared.ensures.0 ∙ ap (bytes_in (a.held + length a.piece.now)) head in
     let few = small_kept (rules_of a.lookup) a.held a.kept.now a.piece.now long c.bytes_in-declared.result _ (omega arith) are c.requires.waits (omega arith) in
-    (few, c.requires.short.0, taken.auto.kept ∙ long)
+    (few, c.requires.lengths.0, taken.auto.kept ∙ long)
 
 pub returns-then-declared-held : goal.returns-then-declared-held
 returns-then-declared-held c =
     let a = c.args in
-    let long = c.requires.short.1 in
+    let long = c.requires.lengths.1 in
     let taken = c.take_in-len in
     let read = c.read-front in
     let head = here (rules_of a.lookup) a.held a.kept.now a.piece.now long taken.result taken.new.kept read.ensures.0 taken.ensures.count taken.ensures.kept_after in
@@ -61,13 +61,13 @@ returns-then-declared-held c =
     ∙ sym (held_kept (rules_of a.lookup) a.held a.kept.now a.piece.now long few) in
     c.walk_joined.ensures
     ∙ rw (read.ensures.1.0, read.ensures.1.1)
-    (ap₂ (λ (bs ks : List ℕ). moved_of (rules_of a.lookup) bs a.from ks a.spans.now) all taken.ensures.kept_after)
+    (ap₂ (λ (bs ks : List ℕ). moved_of (rules_of a.lookup) bs a.moved.now ks a.spans.now) all taken.ensures.kept_after)
 
 pub walk_on-requires : goal.walk_on-requires
 walk_on-requires c =
     let a = c.args in
-    let long = c.requires.short.1 in
-    let moves = put_moves (a.held + length a.piece.now) _ a.from a.spans.now c.bytes_in-declared.result (omega arith) c.bytes_in-declared.ensures.0 c.put.new.spans c.put.new.moved c.put.ensures in
+    let long = c.requires.lengths.1 in
+    let moves = put_moves (a.held + length a.piece.now) _ a.moved.now a.spans.now c.bytes_in-declared.result (omega arith) c.bytes_in-declared.ensures.0 c.put.new.spans c.put.new.moved c.put.ensures in
     let all = c.take_in-len.auto.kept in
     let same = c.put.auto.spans in
     simp (tail_part, length-drop) (omega arith)
@@ -75,7 +75,7 @@ walk_on-requires c =
 pub returns : goal.returns
 returns c =
     let a = c.args in
-    let long = c.requires.short.1 in
+    let long = c.requires.lengths.1 in
     let taken = c.take_in-len in
     let read = c.read-front in
     let declared = c.bytes_in-declared in
@@ -85,6 +85,6 @@ returns c =
     let are = declared.ensures.0 ∙ ap (bytes_in (a.held + length a.piece.now)) head in
     c.walk_on.ensures
     ∙ rw (read.ensures.1.0, read.ensures.1.1)
-    (record_then rules a.held a.kept.now a.piece.now long a.from a.spans.now declared.result (omega arith) are c.if-declared-held.false
+    (record_then rules a.held a.kept.now a.piece.now long a.moved.now a.spans.now declared.result (omega arith) are c.if-declared-held.false
     taken.new.kept _ put.new.spans put.new.moved (tail_part a.piece.now (declared.result - a.held)) (rw head at put.ensures))
-    ∙ ap (λ (ks : List ℕ). moved_of rules (came_bytes a.held a.kept.now a.piece.now) a.from ks a.spans.now) taken.ensures.kept_after
+    ∙ ap (λ (ks : List ℕ). moved_of rules (came_bytes a.held a.kept.now a.piece.now) a.moved.now ks a.spans.now) taken.ensures.kept_after
