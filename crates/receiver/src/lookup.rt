@@ -14,8 +14,8 @@ pub struct Lookup<'a> {
     pub blocks: usize,
     pub word: u32,
     pub flags: u32,
-    pub ghost few: { blocks ≤ 8 },
-    pub ghost known: { Known (rules_in rules.now (blocks * 8)) word flags },
+    pub ghost eight_blocks: { blocks ≤ 8 },
+    pub ghost flags_known: { Known (rules_in rules.now (blocks * 8)) word flags },
 }
 
 impl<'a> Lookup<'a> {

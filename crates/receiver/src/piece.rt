@@ -15,8 +15,8 @@ const JOINED: usize = 600;
 // How far a walk has come: the rows written, the offset of the record that is waited for, and whether all is whole so far.
 #[derive(Clone, Copy)]
 pub struct Moved {
-    pub rows: u32,
     pub offset: usize,
+    pub rows: u32,
     pub whole: bool,
 }
 
@@ -36,7 +36,7 @@ pub fn walk_on(s: &[u8], lookup: Lookup, moved: &mut Moved, kept: &mut [u8], spa
     ensures { (kept.new, spans.new, moved.new) ≡ moved_of (rules_of lookup.entry) s.now moved.old kept.old spans.old }
 {
     let start = moved.offset;
-    pass(s, lookup, moved, spans);
+    *moved = pass(s, lookup, *moved, spans);
     keep(s, moved.offset - start, kept);
 }
 
