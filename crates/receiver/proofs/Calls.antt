@@ -7,7 +7,7 @@ use mathlib.Core.Logic.{⊎_elim}
 use Prim.Native.Nat.{ℕ, min, ◌+◌, ◌*◌, ◌≤◌, ◌<◌}
 use native.Mathlib.Nat.{zero-add}
 use native.Mathlib.Omega.{arith}
-use lib.Dec.{eqb, ltb}
+use lib.Dec.{ltb}
 use Rattle.std.specs.Prelude.{Ok}
 use lib.ListN.{length}
 use borrow.Author.Tests.{lt-ltb, le-ltb, eqb-true}
@@ -21,7 +21,7 @@ use Rattle.region_rows.proofs.Rows.{stored_laid}
 use Rattle.region.specs.declared.Listing.{Listing}
 use Rattle.receiver.specs.Arrived.{arrived}
 use Rattle.receiver.specs.Waiting.{settled}
-use Rattle.receiver.specs.Calls.{most_piece, least_room, shut_down, in_use, state_of, held_in, rules_at, waiting_of, sound, usable, FeedOut, feed_refused, taken_in, piece_taken, feed_out, FinishOut, finish_refused, finished, finish_out}
+use Rattle.receiver.specs.Calls.{most_piece, least_room, shut_down, in_use, state_of, rules_at, waiting_of, sound, usable, FeedOut, feed_refused, piece_taken, feed_out, FinishOut, finish_refused, finished, finish_out}
 use Rattle.receiver.specs.Steps.{moved_of, taken_of, last_of}
 use Rattle.receiver.specs.declared.State.{State}
 use Rattle.receiver.specs.declared.refusal.Refusal.TheVariants.{BadPiece, TooLong, NotReceiving}

@@ -9,7 +9,6 @@ use lib.Dec.{ltb}
 use borrow.Author.Tests.{lt-leb, le-leb, ne_eqb}
 use Rattle.header_judge.specs.Head.{lacking, size_of, declared_of, is_box, summary_of, declared_by}
 use Rattle.header_judge.specs.declared.Summary.{Summary}
-use Rattle.header_judge.specs.declared.Head.{Head}
 use Rattle.header_judge.specs.declared.Head.TheVariants.{Record}
 use Rattle.header_judge.proofs.Heads.{head_record, declared_record, word_there, header_there}
 use Rattle.region_rows.specs.Rows.{top, with_span}

@@ -26,6 +26,7 @@ impl<'a> Front<'a> {
     ghost use Rattle.receiver.specs.Steps.{bytes_in, put_of};
 
     // The bytes of its record, of which `left` have come: 0 where it declares none, or more.
+    #[tactic(auto, using(crate::proofs::Fronts::none_in, crate::proofs::Fronts::all_in_lem))]
     pub fn bytes_in(self, left: usize) -> usize
         ensures { (result ≡ bytes_in left (head_in self.entry)) × (result ≤ left) × (result ≤ 524280) }
     {

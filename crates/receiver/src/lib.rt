@@ -66,6 +66,7 @@ pub struct Receiver {
 
 impl State {
     // Whether the numbers are such as a call leaves. The ranges are tested without a branch, since each feed tests them all.
+    #[tactic(auto, unfolding(crate::specs::Calls::in_bounds))]
     fn in_bounds(self) -> bool
         ensures { result ≡ in_bounds self }
     {
@@ -82,6 +83,7 @@ impl State {
     }
 
     // Whether the numbers and the rules are such as a call leaves.
+    #[tactic(auto, using(crate::proofs::Bounds::bounds_range), unfolding(crate::specs::Calls::sound))]
     fn sound(self, rules: &[u32; NUMBERS]) -> bool
         ensures { result ≡ sound self rules.now }
     {
@@ -101,6 +103,7 @@ impl State {
 
     // The rules, with what the kept bytes tell, where a call can go on from them: where no record of them is all in.
     #[inline(always)]
+    #[tactic(auto, using(crate::proofs::Bounds::bounds_range, crate::proofs::Bounds::sound_bounds, crate::proofs::Bounds::unusable, crate::proofs::Bounds::usable_by, crate::proofs::Bounds::usable_empty))]
     fn see<'a>(self, rules: &'a [u32; NUMBERS], kept: &[u8]) -> Option<Lookup<'a>>
         requires { length kept.now ≡ 536 }
         ensures usable { is_some result ≡ usable self rules.now kept.now }

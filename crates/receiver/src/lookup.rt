@@ -38,6 +38,7 @@ impl<'a> Lookup<'a> {
     }
 
     // The flags of a word. With no rules they wait for no byte of it.
+    #[tactic(auto, unfolding(rules::specs::Rules::flags_of, rules::specs::Rules::with_rules, rules::specs::Rules::rules_of, rules::specs::Columns::rules_from))]
     pub fn flags_of(&self, word: u32) -> u32
         ensures { Known (rules_of self.now) word result }
     {
@@ -51,6 +52,7 @@ impl<'a> Lookup<'a> {
     }
 
     // Reads the header that some bytes start with.
+    #[tactic(auto, using(header_judge::proofs::Heads::head_known))]
     pub fn read<'b>(&mut self, bytes: &'b [u8]) -> Front<'b>
         ensures { (head_in result ≡ head_of (rules_of self.old) bytes.now) × SameRules self.new self.old }
     {

@@ -41,6 +41,7 @@ pub fn walk_on(s: &[u8], lookup: Lookup, moved: &mut Moved, kept: &mut [u8], spa
 }
 
 // Kept bytes, and a piece after them.
+#[tactic(auto, using(crate::proofs::Kept::joined_copy))]
 fn join(kept: &[u8], piece: &[u8]) -> [u8; JOINED]
     requires { length kept.now + length piece.now ≤ 600 }
     ensures { take (length kept.now + length piece.now) result ≡ kept.now ++ piece.now }
@@ -72,6 +73,7 @@ fn walk_joined(
 }
 
 // Takes a piece in behind `held` bytes, as far as they are kept. How many bytes are kept then.
+#[tactic(auto, using(crate::proofs::Taken::taken_copy))]
 fn take_in(held: usize, piece: &[u8], kept: &mut [u8]) -> usize
     requires { length kept.old ≡ 536 }
     ensures kept_after { kept.new ≡ kept_of (came_bytes held kept.old piece.now) kept.old }
