@@ -55,15 +55,15 @@ held_bytes held kept = take held kept ++ replicate (held - most_kept) 0
 abbrev pub came_bytes : ℕ → List ℕ → List ℕ → List ℕ
 came_bytes held kept piece = held_bytes held kept ++ piece
 
--- where the walk of a state stands, after so many rows
-abbrev pub stands_at : State → ℕ → Moved
-stands_at s rows = record { rows = rows; offset = s.offset; whole = eqb s.whole 1 }
+-- where a state's walk stands, before the rows of a piece
+abbrev pub walk_of : State → Moved
+walk_of s = record { rows = 0; offset = s.offset; whole = eqb s.whole 1 }
 
 -- what a piece leaves of a state's walk: its rows are the table's first
 abbrev pub taken_of : List ℕ → State → List ℕ → List ℕ → List ℕ → List ℕ × List ℕ × Moved
 taken_of rules s piece kept t =
     let bytes = (waiting_of s kept).bytes ++ piece in
-    moved_of rules bytes (stands_at s 0) (taken_in (held_in s) bytes kept) t
+    moved_of rules bytes (walk_of s) (taken_in (held_in s) bytes kept) t
 
 -- the listing of a walk that is not cut off, with so many rows in all, of which some are written now
 abbrev pub listing_at : ℕ → ℕ → ℕ → Bool → Stop → ℕ → Listing

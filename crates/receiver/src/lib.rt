@@ -1,4 +1,4 @@
-// The receiver of a region that comes in pieces: start, feed and finish. The state is a value; the rules and the kept bytes are lent.
+// The receiver of a region that comes in pieces: start, feed and finish. The state, the rules and the kept bytes are lent where they lie.
 #![tactic(auto)]
 
 ghost use Rattle.std.specs.Prelude.{◌≡◌, true, ◌≤◌, eqb, length, take, is_some, IfSome};
@@ -102,6 +102,7 @@ impl State {
     }
 
     // The rules, with what the kept bytes tell, where a call can go on from them: where no record of them is all in.
+    // Inlined for speed, since what is told would else go through memory.
     #[inline(always)]
     #[tactic(auto, using(crate::proofs::Bounds::bounds_range, crate::proofs::Bounds::sound_bounds, crate::proofs::Bounds::unusable, crate::proofs::Bounds::usable_by, crate::proofs::Bounds::usable_empty))]
     fn see<'a>(self, rules: &'a [u32; NUMBERS], kept: &[u8]) -> Option<Lookup<'a>>
@@ -120,6 +121,26 @@ impl State {
         see_kept(held, lookup, kept)
     }
 
+    // A piece that is taken: how far it moves the walk.
+    fn take_piece(self, lookup: Lookup, piece: &[u8], kept: &mut [u8], spans: &mut [u32]) -> Moved
+        requires usable { (usable self lookup.rules.now kept.old ≡ true) × (lookup.blocks ≡ self.rule_blocks) }
+        requires lengths { (length piece.now ≤ 64) × (length kept.old ≡ 536) × (6000 ≤ length spans.old) }
+        ensures { (kept.new, spans.new, result) ≡ taken_of (rules_of lookup.entry) self piece.now kept.old spans.old }
+    {
+        let mut moved = Moved {
+            rows: 0,
+            offset: self.offset as usize,
+            whole: self.whole == 1,
+        };
+        let held = self.held();
+        if held == 0 {
+            walk_on(piece, lookup, &mut moved, kept, spans);
+        } else {
+            after_held(held, lookup, &mut moved, piece, kept, spans);
+        }
+        moved
+    }
+
     // No call goes on from it.
     fn shut(&mut self)
         ensures { self.new ≡ shut_down self.old }
@@ -128,7 +149,7 @@ impl State {
     }
 }
 
-// What `held` bytes tell, by those that are kept, where no record of them is all in.
+// What `held` bytes tell, by those that are kept, where no record of them is all in. Apart for speed: a feed with nothing held goes past it.
 #[inline(never)]
 fn see_kept<'a>(held: usize, mut lookup: Lookup<'a>, kept: &[u8]) -> Option<Lookup<'a>>
     requires { length kept.now ≡ 536 }
@@ -165,32 +186,6 @@ pub fn start(rules: &[u32]) -> Result<Receiver, Refusal>
     })
 }
 
-// A piece that is taken: how far it moves the walk.
-fn take_piece(
-    state: State,
-    lookup: Lookup,
-    piece: &[u8],
-    kept: &mut [u8],
-    spans: &mut [u32],
-) -> Moved
-    requires usable { (usable state lookup.rules.now kept.old ≡ true) × (lookup.blocks ≡ state.rule_blocks) }
-    requires lengths { (length piece.now ≤ 64) × (length kept.old ≡ 536) × (6000 ≤ length spans.old) }
-    ensures { (kept.new, spans.new, result) ≡ taken_of (rules_of lookup.entry) state piece.now kept.old spans.old }
-{
-    let mut moved = Moved {
-        rows: 0,
-        offset: state.offset as usize,
-        whole: state.whole == 1,
-    };
-    let held = state.held();
-    if held == 0 {
-        walk_on(piece, lookup, &mut moved, kept, spans);
-    } else {
-        after_held(held, lookup, &mut moved, piece, kept, spans);
-    }
-    moved
-}
-
 // Takes a piece: the rows that are all in with it go to the table's start. How many they are.
 pub fn feed(
     state: &mut State,
@@ -211,7 +206,7 @@ pub fn feed(
         state.shut();
         return Err(Refusal::TooLong);
     }
-    let moved = take_piece(*state, lookup, piece, kept, spans);
+    let moved = state.take_piece(lookup, piece, kept, spans);
     let rows = moved.rows as u64;
     state.taken = taken;
     state.offset = moved.offset as u64;
