@@ -1,15 +1,14 @@
 -- What the bounds of a state say of its numbers, and what its rules and its kept bytes say.
 -- By taking the tests apart. Assumes nothing.
 use mathlib.Core.Path.{◌≡◌, sym, ◌∙◌}
-use mathlib.Core.Bool.{true, false, ◌&&◌, ◌||◌}
+use mathlib.Core.Bool.{true, false}
 use mathlib.Core.List.{List}
-use Prim.Native.Nat.{ℕ, ◌*◌, ◌≤◌}
+use Prim.Native.Nat.{ℕ, ◌≤◌}
 use native.Mathlib.Omega.{arith}
-use lib.Dec.{eqb, leb, ltb}
+use lib.Dec.{eqb}
 use lib.ListN.{length, take}
 use borrow.Author.Tests.{eqb-true, leb-true}
 use Rattle.basics.proofs.Bools.{both}
-use Rattle.rules.specs.Rules.{valid_of}
 use Rattle.header_judge.specs.Head.{head_of}
 use Rattle.receiver.specs.Calls.{most_kept, in_use, held_in, rules_at, in_range, in_bounds, sound, usable}
 use Rattle.receiver.specs.Steps.{bytes_in, held_bytes}
@@ -20,7 +19,6 @@ use Rattle.receiver.proofs.Moves.{held_length, held_head}
 
 pub record InRange (s : State) : Type 0 where
   pub used : s.stage ≡ in_use
-  pub marked : s.whole ≤ 1
   pub blocks : s.rule_blocks ≤ 8
   pub taken : s.taken ≤ 1048576
   pub offset : s.offset ≤ s.taken
@@ -35,7 +33,6 @@ in_range_lem s e =
     let used = both _ _ blocks.0 in
     record {
       used = eqb-true s.stage in_use used.0;
-      marked = leb-true s.whole 1 used.1;
       blocks = leb-true s.rule_blocks 8 blocks.1;
       taken = leb-true s.taken 1048576 taken.1;
       offset = leb-true s.offset s.taken offset.1;
@@ -47,25 +44,9 @@ pub bounds_range : (s : State) → in_bounds s ≡ true → InRange s
 unfolding in_bounds
 bounds_range s e = in_range_lem s (both (in_range s) _ e).0
 
-pub bounds_out : (s : State) → in_range s ≡ false → false ≡ in_bounds s
-unfolding in_bounds
-bounds_out s e = rw e
-
-pub bounds_in : (s : State) → in_range s ≡ true → (leb s.offset (s.rows * 524280) && (ltb 0 s.rows || eqb s.whole 1)) ≡ in_bounds s
-unfolding in_bounds
-bounds_in s e = rw e
-
 -- ---- the rules and the kept bytes
 
 module _ (s : State) (columns : List ℕ) where
-  pub bounds_sound : in_bounds s ≡ true → valid_of (rules_at s columns) ≡ sound s columns
-  unfolding sound
-  bounds_sound e = rw e
-
-  pub unsound : in_bounds s ≡ false → false ≡ sound s columns
-  unfolding sound
-  unsound e = rw e
-
   pub sound_bounds : sound s columns ≡ true → in_bounds s ≡ true
   unfolding sound
   sound_bounds e = (both (in_bounds s) _ e).0

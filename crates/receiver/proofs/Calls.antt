@@ -7,7 +7,7 @@ use mathlib.Core.Logic.{⊎_elim}
 use Prim.Native.Nat.{ℕ, min, ◌+◌, ◌*◌, ◌≤◌, ◌<◌}
 use native.Mathlib.Nat.{zero-add}
 use native.Mathlib.Omega.{arith}
-use lib.Dec.{eqb, ltb}
+use lib.Dec.{ltb}
 use Rattle.std.specs.Prelude.{Ok}
 use lib.ListN.{length}
 use borrow.Author.Tests.{lt-ltb, le-ltb, eqb-true}
@@ -21,8 +21,8 @@ use Rattle.region_rows.proofs.Rows.{stored_laid}
 use Rattle.region.specs.declared.Listing.{Listing}
 use Rattle.receiver.specs.Arrived.{arrived}
 use Rattle.receiver.specs.Waiting.{settled}
-use Rattle.receiver.specs.Calls.{most_piece, least_room, shut_down, in_use, state_of, held_in, rules_at, waiting_of, sound, usable, FeedOut, feed_refused, taken_in, piece_taken, feed_out, FinishOut, finish_refused, finished, finish_out}
-use Rattle.receiver.specs.Steps.{moved_of, last_of}
+use Rattle.receiver.specs.Calls.{most_piece, least_room, shut_down, in_use, state_of, rules_at, waiting_of, sound, usable, FeedOut, feed_refused, piece_taken, feed_out, FinishOut, finish_refused, finished, finish_out}
+use Rattle.receiver.specs.Steps.{moved_of, taken_of, last_of}
 use Rattle.receiver.specs.declared.State.{State}
 use Rattle.receiver.specs.declared.refusal.Refusal.TheVariants.{BadPiece, TooLong, NotReceiving}
 use Rattle.receiver.specs.declared.piece.Moved.{Moved}
@@ -70,7 +70,7 @@ module _ (s : State) (columns piece kept t : List ℕ) where
       pub feed_taken : s.taken + length piece ≤ most_bytes → length piece ≤ most_piece → least_room ≤ capacity t
           → (stage : ℕ) → stage ≡ in_use
           → (kept₁ t₁ : List ℕ) (m : Moved)
-          → ◌≡◌ {A = List ℕ × List ℕ × Moved} (kept₁, t₁, m) (moved_of (rules_at s columns) ((waiting_of s kept).bytes ++ piece) (record { rows = 0; offset = s.offset; whole = eqb s.whole 1 }) (taken_in (held_in s) ((waiting_of s kept).bytes ++ piece) kept) t)
+          → ◌≡◌ {A = List ℕ × List ℕ × Moved} (kept₁, t₁, m) (taken_of (rules_at s columns) s piece kept t)
           → ◌≡◌ {A = FeedOut}
           (kept₁, t₁, state_of (s.taken + length piece) m.offset (s.rows + m.rows) s.rule_blocks (bit m.whole) stage, Ok m.rows)
           (feed_out s columns piece kept t)

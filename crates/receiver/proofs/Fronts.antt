@@ -1,4 +1,4 @@
--- The header that is read of a front is that of its bytes, and so are the bytes of its record and its row.
+-- What a front tells of its record: the bytes that are in, and the row.
 -- By the tests that make up a header. Assumes nothing.
 use mathlib.Core.Path.{◌≡◌, sym, ap, ◌∙◌}
 use mathlib.Core.List.{List}
@@ -8,18 +8,16 @@ use native.Mathlib.Omega.{arith}
 use lib.Dec.{ltb}
 use borrow.Author.Tests.{lt-leb, le-leb, ne_eqb}
 use Rattle.std.proofs.Common.{Ok}
-use Rattle.header_judge.specs.Head.{declared_of, is_box, summary_of, Complete, head_with, head_of, declared_by, Head}
+use Rattle.header_judge.specs.Head.{declared_of, is_box, summary_of, Complete, declared_by}
 use Rattle.header_judge.specs.declared.Summary.{Summary}
 use Rattle.header_judge.proofs.Sizes.{size_found}
-use Rattle.header_judge.proofs.Heads.{head_known, head_record, declared_record, word_there, header_there}
+use Rattle.header_judge.proofs.Heads.{head_record, declared_record, word_there, header_there}
 use Rattle.region_rows.specs.Rows.{top, with_span}
 use Rattle.region_try.specs.Tries.{hit, span_of, try_of}
 use Rattle.region_try.specs.Whole.{keeps_whole}
-use Rattle.receiver.specs.Lookups.{rules_of, SameRules}
-use Rattle.receiver.specs.Fronts.{head_at}
+use Rattle.receiver.specs.Fronts.{head_in}
 use Rattle.receiver.specs.Steps.{bytes_in, put_of}
 use Rattle.receiver.specs.declared.front.Front.{Front}
-use Rattle.receiver.specs.declared.lookup.Lookup.{Lookup}
 use Rattle.receiver.specs.declared.piece.Moved.{Moved}
 use Rattle.receiver.proofs.Records.{full}
 
@@ -32,63 +30,50 @@ keeps_whole_lem offset left s h =
     rw (held, le-leb s.declared s.declared (omega arith))
 
 module _ (f : Front) (left : ℕ) where
-  abbrev read : Head
-  read = head_with f.bytes.now f.lookup.word f.lookup.flags
-
   abbrev summary : Summary
-  summary = summary_of f.bytes.now f.lookup.word f.lookup.flags
-
-  head_read : read ≡ head_at f
-  head_read = head_known (rules_of f.lookup) f.bytes.now f.lookup.word f.lookup.flags f.worded f.lookup.known
+  summary = summary_of f.bytes.now f.word f.flags
 
   -- with fewer than it declares, none are in; else they are those
-  pub none_in : left < declared_by read → 0 ≡ bytes_in left (head_at f)
+  pub none_in : left < declared_by (head_in f) → 0 ≡ bytes_in left (head_in f)
   unfolding bytes_in
-  none_in h = rw (← head_read, lt-leb (declared_by read) left h)
+  none_in h = rw (lt-leb (declared_by (head_in f)) left h)
 
-  pub all_in : declared_by read ≤ left → declared_by read ≡ bytes_in left (head_at f)
+  pub all_in_lem : declared_by (head_in f) ≤ left → declared_by (head_in f) ≡ bytes_in left (head_in f)
   unfolding bytes_in
-  all_in h = rw (← head_read, le-leb (declared_by read) left h)
+  all_in_lem h = rw (le-leb (declared_by (head_in f)) left h)
 
   -- what is all in has its header, and is that record
   pub record AllIn (declared : ℕ) : Type 0 where
-    pub is : head_at f ≡ Ok summary
-    pub declares : declared ≡ declared_of f.bytes.now f.lookup.flags
-    pub sized : Complete f.bytes.now f.lookup.word f.lookup.flags
+    pub is : head_in f ≡ Ok summary
+    pub declares : declared ≡ declared_of f.bytes.now f.flags
+    pub sized : Complete f.bytes.now f.word f.flags
     pub fits : declared ≤ left
 
-  module _ (declared : ℕ) (some : 0 < declared) (are : declared ≡ bytes_in left (head_at f)) where
+  module _ (declared : ℕ) (some : 0 < declared) (are : declared ≡ bytes_in left (head_in f)) where
     pub record_in : AllIn declared
     unfolding declared_by
     record_in =
-        let found = full left (head_at f) (rw (← are) some) in
-        let declares : declared_by read ≡ declared = ap declared_by (head_read ∙ found.is) ∙ sym found.bytes ∙ sym are in
-        let declared_some : 0 < declared_by read = rw declares some in
-        let there = word_there f.bytes.now f.lookup.word f.lookup.flags declared_some in
-        let sized = header_there f.bytes.now f.lookup.word f.lookup.flags declared_some in
+        let found = full left (head_in f) (rw (← are) some) in
+        let declares : declared_by (head_in f) ≡ declared = ap declared_by found.is ∙ sym found.bytes ∙ sym are in
+        let declared_some : 0 < declared_by (head_in f) = rw declares some in
+        let there = word_there f.bytes.now f.word f.flags declared_some in
+        let sized = header_there f.bytes.now f.word f.flags declared_some in
         record {
-          is = sym head_read ∙ head_record f.bytes.now f.lookup.word f.lookup.flags there sized;
-          declares = sym (declared_record f.bytes.now f.lookup.word f.lookup.flags there sized ∙ declares);
+          is = head_record f.bytes.now f.word f.flags there sized;
+          declares = sym (declared_record f.bytes.now f.word f.flags there sized ∙ declares);
           sized = sized;
           fits = rw (are ∙ found.bytes) found.fits;
         }
 
     -- its row is written, by the numbers that are read
-    pub put_in : (m : Moved) (t : List ℕ) (box : Bool) (size : ℕ) → f.size ≡ Ok size → box ≡ is_box f.lookup.word f.lookup.flags
+    pub put_in : (m : Moved) (t : List ℕ) (box : Bool) (size : ℕ) → f.size ≡ Ok size → box ≡ is_box f.word f.flags
         → ◌≡◌ {A = List ℕ × Moved}
         (with_span t m.rows (span_of 0 top m.offset left summary), record { rows = m.rows + 1; offset = m.offset + declared; whole = m.whole && not (box && ltb declared size) })
-        (put_of (try_of 0 top m.offset left (head_at f)) m t)
+        (put_of (try_of 0 top m.offset left (head_in f)) m t)
     unfolding put_of try_of
     put_in m t box size found b =
         let all = record_in in
         let fits : summary.declared ≤ left = rw (← all.declares) all.fits in
         let nonzero = ne_eqb summary.declared 0 (λ e. let declares = all.declares in omega arith) in
-        let is = (size_found f.bytes.now f.lookup.word f.lookup.flags (sym f.sized ∙ found)).is in
+        let is = (size_found f.bytes.now f.word f.flags (sym f.sized ∙ found)).is in
         rw (all.is, b, is, all.declares, nonzero, keeps_whole_lem m.offset left summary fits)
-
--- the header of a front that was read
-pub front_head : (f : Front) (bytes : List ℕ) (l : Lookup) → f.bytes.now ≡ bytes → SameRules f.lookup l → head_at f ≡ head_of (rules_of l) bytes
-front_head f bytes l b same = rw (b, same.0, same.1)
-
-pub same_then : (l m n : Lookup) → SameRules l m → SameRules m n → SameRules l n
-same_then l m n e f = (e.0 ∙ f.0, e.1 ∙ f.1)

@@ -1,7 +1,6 @@
--- The header that some bytes start with, under a receiver's rules.
-use Rattle.header_judge.specs.Head.{head_of, Head}
+-- The header that a front tells.
+use Rattle.header_judge.specs.Head.{head_with, Head}
 use Rattle.receiver.specs.declared.front.Front.{Front}
-use Rattle.receiver.specs.Lookups.{rules_of}
 
-abbrev pub head_at : Front → Head
-head_at f = head_of (rules_of f.lookup) f.bytes.now
+abbrev pub head_in : Front → Head
+head_in f = head_with f.bytes.now f.word f.flags

@@ -13,7 +13,8 @@ use Rattle.region.specs.Listing.{number_of, answer_of}
 use Rattle.region.specs.declared.Listing.{Listing}
 use Rattle.receiver.specs.Arrived.{arrived, extent, whole_with}
 use Rattle.receiver.specs.Waiting.{Waiting, last_tries, last_listing}
-use Rattle.receiver.specs.Calls.{most_kept, kept_of}
+use Rattle.receiver.specs.Calls.{most_kept, held_in, waiting_of, kept_of, taken_in}
+use Rattle.receiver.specs.declared.State.{State}
 use Rattle.receiver.specs.declared.piece.Moved.{Moved}
 
 -- the bytes of the record that a header declares, where so many have come: 0 where it declares none, or more
@@ -52,6 +53,16 @@ held_bytes held kept = take held kept ++ replicate (held - most_kept) 0
 -- and with a piece after them
 abbrev pub came_bytes : ℕ → List ℕ → List ℕ → List ℕ
 came_bytes held kept piece = held_bytes held kept ++ piece
+
+-- where a state's walk stands, before the rows of a piece
+abbrev pub walk_of : State → Moved
+walk_of s = record { rows = 0; offset = s.offset; whole = eqb s.whole 1 }
+
+-- what a piece leaves of a state's walk: its rows are the table's first
+abbrev pub taken_of : List ℕ → State → List ℕ → List ℕ → List ℕ → List ℕ × List ℕ × Moved
+taken_of rules s piece kept t =
+    let bytes = (waiting_of s kept).bytes ++ piece in
+    moved_of rules bytes (walk_of s) (taken_in (held_in s) bytes kept) t
 
 -- the listing of a walk that is not cut off, with so many rows in all, of which some are written now
 abbrev pub listing_at : ℕ → ℕ → ℕ → Bool → Stop → ℕ → Listing

@@ -92,7 +92,7 @@ pub fn last(state: State, lookup: Lookup, kept: &[u8], spans: &mut [u32]) -> Lis
         return listing_at(from.rows, 0, state.rows, from.whole, Stop::EndOfInput, 0);
     }
     let front = &kept[..held.min(KEPT)];
-    let lookup = lookup.with_word(word_of(front));
-    let head = header_judge::judge_with(front, lookup.word, lookup.flags);
+    let word = word_of(front);
+    let head = header_judge::judge_with(front, word, lookup.flags_of(word));
     at_head(head, held, from, spans)
 }

@@ -1,11 +1,11 @@
-// The receiver of a region that comes in pieces: start, feed and finish. The state is a value; the rules and the kept bytes are lent.
+// The receiver of a region that comes in pieces: start, feed and finish. The state, the rules and the kept bytes are lent where they lie.
 #![tactic(auto)]
 
-ghost use Rattle.std.specs.Prelude.{◌≡◌, true, ◌++◌, ◌*◌, ◌≤◌, eqb, length, take, is_some, IfSome};
+ghost use Rattle.std.specs.Prelude.{◌≡◌, true, ◌≤◌, eqb, length, take, is_some, IfSome};
 ghost use Rattle.header_judge.specs.Head.{head_of};
 ghost use Rattle.receiver.specs.Lookups.{rules_of, SameRules};
-ghost use Rattle.receiver.specs.Steps.{bytes_in, moved_of};
-ghost use Rattle.receiver.specs.Calls.{shut_down, in_bounds, sound, held_in, waiting_of, rules_at, usable, start_out, taken_in, feed_out, finish_out};
+ghost use Rattle.receiver.specs.Steps.{bytes_in, taken_of};
+ghost use Rattle.receiver.specs.Calls.{shut_down, in_bounds, sound, held_in, usable, start_out, feed_out, finish_out};
 
 pub mod front;
 pub mod last;
@@ -15,8 +15,6 @@ pub mod piece;
 pub mod refusal;
 
 use answers::MOST_BYTES;
-use front::Front;
-use header_judge::version::bit_of;
 use last::last;
 use lookup::Lookup;
 use piece::{Moved, after_held, walk_on};
@@ -67,6 +65,7 @@ pub struct Receiver {
 
 impl State {
     // Whether the numbers are such as a call leaves. The ranges are tested without a branch, since each feed tests them all.
+    #[tactic(auto, unfolding(crate::specs::Calls::in_bounds))]
     fn in_bounds(self) -> bool
         ensures { result ≡ in_bounds self }
     {
@@ -83,6 +82,7 @@ impl State {
     }
 
     // Whether the numbers and the rules are such as a call leaves.
+    #[tactic(auto, using(crate::proofs::Bounds::bounds_range), unfolding(crate::specs::Calls::sound))]
     fn sound(self, rules: &[u32; NUMBERS]) -> bool
         ensures { result ≡ sound self rules.now }
     {
@@ -101,6 +101,9 @@ impl State {
     }
 
     // The rules, with what the kept bytes tell, where a call can go on from them: where no record of them is all in.
+    // Inlined for speed, since what is told would else go through memory.
+    #[inline(always)]
+    #[tactic(auto, using(crate::proofs::Bounds::bounds_range, crate::proofs::Bounds::sound_bounds, crate::proofs::Bounds::unusable, crate::proofs::Bounds::usable_by, crate::proofs::Bounds::usable_empty))]
     fn see<'a>(self, rules: &'a [u32; NUMBERS], kept: &[u8]) -> Option<Lookup<'a>>
         requires { length kept.now ≡ 536 }
         ensures usable { is_some result ≡ usable self rules.now kept.now }
@@ -117,6 +120,26 @@ impl State {
         see_kept(held, lookup, kept)
     }
 
+    // A piece that is taken: how far it moves the walk.
+    fn take_piece(self, lookup: Lookup, piece: &[u8], kept: &mut [u8], spans: &mut [u32]) -> Moved
+        requires usable { (usable self lookup.rules.now kept.old ≡ true) × (lookup.blocks ≡ self.rule_blocks) }
+        requires lengths { (length piece.now ≤ 64) × (length kept.old ≡ 536) × (6000 ≤ length spans.old) }
+        ensures { (kept.new, spans.new, result) ≡ taken_of (rules_of lookup.entry) self piece.now kept.old spans.old }
+    {
+        let mut moved = Moved {
+            rows: 0,
+            offset: self.offset as usize,
+            whole: self.whole == 1,
+        };
+        let held = self.held();
+        if held == 0 {
+            walk_on(piece, lookup, &mut moved, kept, spans);
+        } else {
+            after_held(held, lookup, &mut moved, piece, kept, spans);
+        }
+        moved
+    }
+
     // No call goes on from it.
     fn shut(&mut self)
         ensures { self.new ≡ shut_down self.old }
@@ -125,15 +148,16 @@ impl State {
     }
 }
 
-// What `held` bytes tell, by those that are kept, where no record of them is all in.
-fn see_kept<'a>(held: usize, lookup: Lookup<'a>, kept: &[u8]) -> Option<Lookup<'a>>
+// What `held` bytes tell, by those that are kept, where no record of them is all in. Apart for speed: a feed with nothing held goes past it.
+#[inline(never)]
+fn see_kept<'a>(held: usize, mut lookup: Lookup<'a>, kept: &[u8]) -> Option<Lookup<'a>>
     requires { length kept.now ≡ 536 }
     ensures waits { is_some result ≡ eqb (bytes_in held (head_of (rules_of lookup.entry) (take held kept.now))) 0 }
     ensures lookup { IfSome result (λ l. SameRules l lookup.entry) }
 {
-    let front = Front::read(&kept[..held.min(KEPT)], lookup);
+    let front = lookup.read(&kept[..held.min(KEPT)]);
     if front.bytes_in(held) == 0 {
-        return Some(front.lookup);
+        return Some(lookup);
     }
     None
 }
@@ -161,30 +185,6 @@ pub fn start(rules: &[u32]) -> Result<Receiver, Refusal>
     })
 }
 
-// A piece that is taken.
-fn take_piece(
-    state: State,
-    lookup: Lookup,
-    piece: &[u8],
-    kept: &mut [u8],
-    spans: &mut [u32],
-) -> Moved
-    requires state { (usable state lookup.rules.now kept.old ≡ true) × (lookup.blocks ≡ state.rule_blocks) }
-    requires room { (length piece.now ≤ 64) × (length kept.old ≡ 536) × (6000 ≤ length spans.old) }
-    ensures { (kept.new, spans.new, result) ≡ moved_of (rules_of lookup.entry) ((waiting_of state kept.old).bytes ++ piece.now) (record { rows = 0; offset = state.offset; whole = eqb state.whole 1 }) (taken_in (held_in state) ((waiting_of state kept.old).bytes ++ piece.now) kept.old) spans.old }
-{
-    let from = Moved {
-        rows: 0,
-        offset: state.offset as usize,
-        whole: state.whole == 1,
-    };
-    let held = state.held();
-    if held == 0 {
-        return walk_on(piece, lookup, from, kept, spans);
-    }
-    after_held(held, lookup, from, piece, kept, spans)
-}
-
 // Takes a piece: the rows that are all in with it go to the table's start. How many they are.
 pub fn feed(
     state: &mut State,
@@ -205,12 +205,12 @@ pub fn feed(
         state.shut();
         return Err(Refusal::TooLong);
     }
-    let moved = take_piece(*state, lookup, piece, kept, spans);
+    let moved = state.take_piece(lookup, piece, kept, spans);
     let rows = moved.rows as u64;
     state.taken = taken;
     state.offset = moved.offset as u64;
     state.rows += rows;
-    state.whole = bit_of(moved.whole);
+    state.whole = u32::from(moved.whole);
     Ok(rows)
 }
 

@@ -3,7 +3,8 @@ ghost use Rattle.std.specs.Prelude.{◌*◌, ◌≤◌};
 ghost use Rattle.rules.specs.Columns.{rules_in};
 ghost use Rattle.header_judge.specs.Steps.{Known};
 
-use header_judge::version::NO_WORD;
+use crate::front::Front;
+use header_judge::version::{NO_WORD, word_of};
 use rules::columns::NUMBERS;
 
 // The rules are the rows of some blocks of a table's columns.
@@ -13,12 +14,14 @@ pub struct Lookup<'a> {
     pub blocks: usize,
     pub word: u32,
     pub flags: u32,
-    pub ghost few: { blocks ≤ 8 },
-    pub ghost known: { Known (rules_in rules.now (blocks * 8)) word flags },
+    pub ghost eight_blocks: { blocks ≤ 8 },
+    pub ghost flags_known: { Known (rules_in rules.now (blocks * 8)) word flags },
 }
 
 impl<'a> Lookup<'a> {
     ghost use Rattle.std.specs.Prelude.{◌≡◌};
+    ghost use Rattle.header_judge.specs.Head.{head_of};
+    ghost use Rattle.receiver.specs.Fronts.{head_in};
     ghost use Rattle.receiver.specs.Lookups.{rules_of, SameRules};
 
     // One that has looked up no word.
@@ -35,8 +38,9 @@ impl<'a> Lookup<'a> {
     }
 
     // The flags of a word. With no rules they wait for no byte of it.
-    fn flags_of(self, word: u32) -> u32
-        ensures { Known (rules_of self.entry) word result }
+    #[tactic(auto, unfolding(rules::specs::Rules::flags_of, rules::specs::Rules::with_rules, rules::specs::Rules::rules_of, rules::specs::Columns::rules_from))]
+    pub fn flags_of(&self, word: u32) -> u32
+        ensures { Known (rules_of self.now) word result }
     {
         if self.blocks == 0 {
             return 0;
@@ -47,15 +51,20 @@ impl<'a> Lookup<'a> {
         rules::columns::flags_in(self.rules, self.blocks, word)
     }
 
-    // The same with the flags of a word.
-    pub fn with_word(self, word: u32) -> Lookup<'a>
-        ensures { SameRules result self.entry × (result.word ≡ word) }
+    // Reads the header that some bytes start with.
+    #[tactic(auto, using(header_judge::proofs::Heads::head_known))]
+    pub fn read<'b>(&mut self, bytes: &'b [u8]) -> Front<'b>
+        ensures { (head_in result ≡ head_of (rules_of self.old) bytes.now) × SameRules self.new self.old }
     {
-        Lookup {
-            rules: self.rules,
-            blocks: self.blocks,
+        let word = word_of(bytes);
+        let flags = self.flags_of(word);
+        self.word = word;
+        self.flags = flags;
+        Front {
+            bytes,
             word,
-            flags: self.flags_of(word),
+            flags,
+            size: header_judge::size_of(bytes, word, flags),
         }
     }
 }

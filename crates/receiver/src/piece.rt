@@ -6,7 +6,6 @@ ghost use Rattle.receiver.specs.Calls.{kept_of};
 ghost use Rattle.receiver.specs.Steps.{HasRoom, bytes_in, moved_of, came_bytes};
 
 use crate::KEPT;
-use crate::front::Front;
 use crate::lookup::Lookup;
 use crate::pass::pass;
 
@@ -16,8 +15,8 @@ const JOINED: usize = 600;
 // How far a walk has come: the rows written, the offset of the record that is waited for, and whether all is whole so far.
 #[derive(Clone, Copy)]
 pub struct Moved {
-    pub rows: u32,
     pub offset: usize,
+    pub rows: u32,
     pub whole: bool,
 }
 
@@ -32,16 +31,17 @@ fn keep(s: &[u8], at: usize, kept: &mut [u8])
 }
 
 // Some bytes that are walked where they lie, from where the walk stands: the rest of them is kept.
-pub fn walk_on(s: &[u8], lookup: Lookup, from: Moved, kept: &mut [u8], spans: &mut [u32]) -> Moved
-    requires { HasRoom from (length s.now) spans.old × (length kept.old ≡ 536) }
-    ensures { (kept.new, spans.new, result) ≡ moved_of (rules_of lookup.entry) s.now from kept.old spans.old }
+pub fn walk_on(s: &[u8], lookup: Lookup, moved: &mut Moved, kept: &mut [u8], spans: &mut [u32])
+    requires { HasRoom moved.old (length s.now) spans.old × (length kept.old ≡ 536) }
+    ensures { (kept.new, spans.new, moved.new) ≡ moved_of (rules_of lookup.entry) s.now moved.old kept.old spans.old }
 {
-    let moved = pass(s, lookup, from, spans);
-    keep(s, moved.offset - from.offset, kept);
-    moved
+    let start = moved.offset;
+    *moved = pass(s, lookup, *moved, spans);
+    keep(s, moved.offset - start, kept);
 }
 
 // Kept bytes, and a piece after them.
+#[tactic(auto, using(crate::proofs::Kept::joined_copy))]
 fn join(kept: &[u8], piece: &[u8]) -> [u8; JOINED]
     requires { length kept.now + length piece.now ≤ 600 }
     ensures { take (length kept.now + length piece.now) result ≡ kept.now ++ piece.now }
@@ -58,21 +58,22 @@ fn join(kept: &[u8], piece: &[u8]) -> [u8; JOINED]
 fn walk_joined(
     held: usize,
     lookup: Lookup,
-    from: Moved,
+    moved: &mut Moved,
     piece: &[u8],
     kept: &mut [u8],
     spans: &mut [u32],
-) -> Moved
-    requires room { HasRoom from 600 spans.old }
-    requires short { (held ≤ 536) × (length piece.now ≤ 64) × (length kept.old ≡ 536) }
-    ensures { (kept.new, spans.new, result) ≡ moved_of (rules_of lookup.entry) (take held kept.old ++ piece.now) from kept.old spans.old }
+)
+    requires room { HasRoom moved.old 600 spans.old }
+    requires lengths { (held ≤ 536) × (length piece.now ≤ 64) × (length kept.old ≡ 536) }
+    ensures { (kept.new, spans.new, moved.new) ≡ moved_of (rules_of lookup.entry) (take held kept.old ++ piece.now) moved.old kept.old spans.old }
 {
     let joined = join(&kept[..held], piece);
     let came = held + piece.len();
-    walk_on(&joined[..came], lookup, from, kept, spans)
+    walk_on(&joined[..came], lookup, moved, kept, spans);
 }
 
 // Takes a piece in behind `held` bytes, as far as they are kept. How many bytes are kept then.
+#[tactic(auto, using(crate::proofs::Taken::taken_copy))]
 fn take_in(held: usize, piece: &[u8], kept: &mut [u8]) -> usize
     requires { length kept.old ≡ 536 }
     ensures kept_after { kept.new ≡ kept_of (came_bytes held kept.old piece.now) kept.old }
@@ -89,29 +90,28 @@ fn take_in(held: usize, piece: &[u8], kept: &mut [u8]) -> usize
 // its record, but where the record is smaller than what was held of its header.
 pub fn after_held(
     held: usize,
-    lookup: Lookup,
-    from: Moved,
+    mut lookup: Lookup,
+    moved: &mut Moved,
     piece: &[u8],
     kept: &mut [u8],
     spans: &mut [u32],
-) -> Moved
-    requires room { HasRoom from 600 spans.old × (from.offset + held + 600 < 2 ^ 32) }
-    requires short { (length piece.now ≤ 64) × (length kept.old ≡ 536) }
+)
+    requires room { HasRoom moved.old 600 spans.old × (moved.old.offset + held + 600 < 2 ^ 32) }
+    requires lengths { (length piece.now ≤ 64) × (length kept.old ≡ 536) }
     requires waits { bytes_in held (head_of (rules_of lookup) (take held kept.old)) ≡ 0 }
-    ensures { (kept.new, spans.new, result) ≡ moved_of (rules_of lookup.entry) (came_bytes held kept.old piece.now) from (kept_of (came_bytes held kept.old piece.now) kept.old) spans.old }
+    ensures { (kept.new, spans.new, moved.new) ≡ moved_of (rules_of lookup.entry) (came_bytes held kept.old piece.now) moved.old (kept_of (came_bytes held kept.old piece.now) kept.old) spans.old }
 {
     let came = held + piece.len();
     let len = take_in(held, piece, kept);
-    let front = Front::read(&kept[..len], lookup);
+    let front = lookup.read(&kept[..len]);
     let declared = front.bytes_in(came);
     if declared == 0 {
-        return from;
+        return;
     }
-    let lookup = front.lookup;
     if declared < held {
-        return walk_joined(held, lookup, from, piece, kept, spans);
+        return walk_joined(held, lookup, moved, piece, kept, spans);
     }
-    let next = front.put(declared, came, from, spans);
+    front.put(declared, came, moved, spans);
     let start = declared - held;
-    walk_on(&piece[start..], lookup, next, kept, spans)
+    walk_on(&piece[start..], lookup, moved, kept, spans);
 }

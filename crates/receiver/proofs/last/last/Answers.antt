@@ -9,11 +9,11 @@ use lib.ListN.{length, take}
 use Rattle.header_judge.specs.Version.{word_of}
 use Rattle.header_judge.specs.Head.{head_with, head_of}
 use Rattle.header_judge.proofs.Heads.{head_known}
-use Rattle.receiver.specs.Lookups.{rules_of, SameRules}
+use Rattle.header_judge.specs.Steps.{Known}
+use Rattle.receiver.specs.Lookups.{rules_of}
 use Rattle.receiver.specs.Calls.{most_kept, held_in, waiting_of, usable}
 use Rattle.receiver.specs.Steps.{bytes_in}
 use Rattle.receiver.specs.declared.State.{State}
-use Rattle.receiver.specs.declared.lookup.Lookup.{Lookup}
 use Rattle.receiver.proofs.Kept.{kept_front}
 use Rattle.receiver.proofs.Moves.{held_length, held_head}
 use Rattle.receiver.proofs.Bounds.{InRange, bounds_range, usable_bounds, usable_waits}
@@ -24,11 +24,10 @@ ranges : (state : State) (columns kept : List ℕ) → usable state columns kept
 ranges state columns kept good = bounds_range state (usable_bounds state columns kept good)
 
 -- the header that is judged is that of all bytes
-here : (l m : Lookup) (held len : ℕ) (kept : List ℕ) → length kept ≡ most_kept → len ≡ min held most_kept → SameRules m l → m.word ≡ word_of (take len kept)
-    → head_with (take len kept) m.word m.flags ≡ head_of (rules_of l) (take held kept)
-here l m held len kept long n same w =
-    head_known (rules_of m) (take len kept) m.word m.flags w m.known
-    ∙ rw (same.0, same.1) (ap (head_of (rules_of l)) (ap (λ (k : ℕ). take k kept) n ∙ kept_front held kept long))
+here : (rules : List ℕ) (held len word flags : ℕ) (kept : List ℕ) → length kept ≡ most_kept → len ≡ min held most_kept → word ≡ word_of (take len kept) → Known rules word flags
+    → head_with (take len kept) word flags ≡ head_of rules (take held kept)
+here rules held len word flags kept long n w f =
+    head_known rules (take len kept) word flags w f ∙ ap (head_of rules) (ap (λ (k : ℕ). take k kept) n ∙ kept_front held kept long)
 
 pub overflow_cast-from : goal.overflow_cast-from
 overflow_cast-from c =
@@ -54,8 +53,7 @@ at_head-requires c =
     let a = c.args in
     let head = c.judge_with-head.ensures in
     let q = ranges a.state a.lookup.rules.now a.kept.now c.requires.0 in
-    let look = c.with_word-lookup in
-    let is = here a.lookup look.result c.held-held.result c.min.result a.kept.now c.requires.2 c.min.ensures look.ensures.0 (look.ensures.1 ∙ c.word_of.ensures) in
+    let is = here (rules_of a.lookup) c.held-held.result c.min.result c.word_of-word.result c.flags_of.result a.kept.now c.requires.2 c.min.ensures c.word_of-word.ensures c.flags_of.ensures in
     let rows = q.rows in
     let offset = q.offset in
     let taken = q.taken in
@@ -73,8 +71,7 @@ returns c =
     let rules = rules_of a.lookup in
     let kept = a.kept.now in
     let held = held_in a.state in
-    let look = c.with_word-lookup in
-    let is = here a.lookup look.result c.held-held.result c.min.result kept c.requires.2 c.min.ensures look.ensures.0 (look.ensures.1 ∙ c.word_of.ensures) in
+    let is = here rules c.held-held.result c.min.result c.word_of-word.result c.flags_of.result kept c.requires.2 c.min.ensures c.word_of-word.ensures c.flags_of.ensures in
     let counted = held_length rules held kept c.requires.2 in
     let head = held_head rules held kept c.requires.2 in
     let waits = usable_waits a.state a.lookup.rules.now kept c.requires.2 c.requires.0 in

@@ -7,7 +7,6 @@ use borrow.Author.Tests.{eqb-true}
 use Rattle.basics.proofs.Parts.{tail_part}
 use Rattle.receiver.specs.Lookups.{rules_of}
 use Rattle.receiver.specs.Steps.{bytes_in}
-use Rattle.receiver.proofs.Fronts.{front_head, same_then}
 use Rattle.receiver.proofs.Passes.{put_moves, pass_waits, pass_end, pass_put}
 use Rattle.receiver.proofs.pass.pass.Goals as goal
 
@@ -15,8 +14,7 @@ pub returns-then-declared-eq0 : goal.returns-then-declared-eq0
 returns-then-declared-eq0 c =
     let l = c.loop-lookup in
     let read = c.read-front in
-    let same = same_then read.result.lookup l.lookup c.args.lookup read.ensures.1 l.invariant.rules in
-    let here = front_head read.result l.rest.now c.args.lookup read.ensures.0 same in
+    let here = rw (l.invariant.rules.0, l.invariant.rules.1) at read.ensures.0 in
     let none = ap (bytes_in (length l.rest.now)) (sym here) ∙ sym c.bytes_in-declared.ensures.0 ∙ c.if-declared-eq0.true in
     sym (l.invariant.ends ∙ pass_waits (rules_of c.args.lookup) l.rest.now l.moved l.spans none)
 
@@ -25,19 +23,18 @@ loop-lookup-preserved c =
     let l = c.loop-lookup in
     let read = c.read-front in
     let declared = c.bytes_in-declared in
-    let put = c.put-moved in
+    let put = c.put in
     let room = l.invariant.room in
-    let same = same_then read.result.lookup l.lookup c.args.lookup read.ensures.1 l.invariant.rules in
-    let here = front_head read.result l.rest.now c.args.lookup read.ensures.0 same in
+    let here = rw (l.invariant.rules.0, l.invariant.rules.1) at read.ensures.0 in
     let are = declared.ensures.0 ∙ ap (bytes_in (length l.rest.now)) here in
     let written = rw here at put.ensures in
-    let moves = put_moves (length l.rest.now) _ l.moved l.spans declared.result (omega arith) are put.new.spans put.result written in
+    let moves = put_moves (length l.rest.now) _ l.moved l.spans declared.result (omega arith) are put.new.spans put.new.moved written in
     record {
-      rules = same;
+      rules = (read.ensures.1.0 ∙ l.invariant.rules.0, read.ensures.1.1 ∙ l.invariant.rules.1);
       room = simp (tail_part, length-drop) (omega arith);
       ends =
           l.invariant.ends
-          ∙ pass_put (rules_of c.args.lookup) l.rest.now l.moved l.spans declared.result (omega arith) are put.new.spans put.result written
+          ∙ pass_put (rules_of c.args.lookup) l.rest.now l.moved l.spans declared.result (omega arith) are put.new.spans put.new.moved written
           ∙ rw tail_part;
     }
 

@@ -6,56 +6,52 @@ use Prim.Native.Nat.{ℕ, ◌+◌, ◌-◌, min}
 use native.Mathlib.Omega.{arith}
 use lib.ListN.{length, take, length-drop}
 use Rattle.basics.proofs.Parts.{tail_part}
-use Rattle.header_judge.specs.Head.{head_of}
-use Rattle.receiver.specs.Lookups.{rules_of, SameRules}
-use Rattle.receiver.specs.Fronts.{head_at}
+use Rattle.header_judge.specs.Head.{head_of, Head}
+use Rattle.receiver.specs.Lookups.{rules_of}
 use Rattle.receiver.specs.Calls.{most_kept, kept_of}
 use Rattle.receiver.specs.Steps.{bytes_in, moved_of, came_bytes}
-use Rattle.receiver.specs.declared.front.Front.{Front}
-use Rattle.receiver.specs.declared.lookup.Lookup.{Lookup}
-use Rattle.receiver.proofs.Fronts.{front_head}
 use Rattle.receiver.proofs.Passes.{put_moves}
 use Rattle.receiver.proofs.Taken.{head_taken, taken_stays}
 use Rattle.receiver.proofs.Moves.{came_length, held_kept, small_kept, record_then, none_then}
 use Rattle.receiver.proofs.piece.after_held.Goals as goal
 
 -- the header that is read where the piece is taken in is that of all that has come
-here : (f : Front) (l : Lookup) (held : ℕ) (kept piece : List ℕ) → length kept ≡ most_kept → (len : ℕ) (taken : List ℕ)
-    → f.bytes.now ≡ take len taken → SameRules f.lookup l → len ≡ min (held + length piece) most_kept → taken ≡ kept_of (came_bytes held kept piece) kept
-    → head_at f ≡ head_of (rules_of l) (came_bytes held kept piece)
-here f l held kept piece long len taken b same n t =
-    front_head f (take len taken) l b same
-    ∙ ap (λ (bs : List ℕ). head_of (rules_of l) (take len bs)) t
-    ∙ head_taken (rules_of l) (came_bytes held kept piece) kept len (n ∙ ap (λ (k : ℕ). min k most_kept) (sym (came_length (rules_of l) held kept piece long)))
+here : {head : Head} (rules : List ℕ) (held : ℕ) (kept piece : List ℕ) → length kept ≡ most_kept → (len : ℕ) (taken : List ℕ)
+    → head ≡ head_of rules (take len taken) → len ≡ min (held + length piece) most_kept → taken ≡ kept_of (came_bytes held kept piece) kept
+    → head ≡ head_of rules (came_bytes held kept piece)
+here rules held kept piece long len taken h n t =
+    h
+    ∙ ap (λ (bs : List ℕ). head_of rules (take len bs)) t
+    ∙ head_taken rules (came_bytes held kept piece) kept len (n ∙ ap (λ (k : ℕ). min k most_kept) (sym (came_length rules held kept piece long)))
 
 pub returns-then-declared-eq0 : goal.returns-then-declared-eq0
 returns-then-declared-eq0 c =
     let a = c.args in
-    let long = c.requires.short.1 in
+    let long = c.requires.lengths.1 in
     let taken = c.take_in-len in
     let read = c.read-front in
-    let head = here read.result a.lookup a.held a.kept.now a.piece.now long taken.result taken.new.kept read.ensures.0 read.ensures.1 taken.ensures.count taken.ensures.kept_after in
+    let head = here (rules_of a.lookup) a.held a.kept.now a.piece.now long taken.result taken.new.kept read.ensures.0 taken.ensures.count taken.ensures.kept_after in
     let none = ap (bytes_in (a.held + length a.piece.now)) (sym head) ∙ sym c.bytes_in-declared.ensures.0 ∙ c.if-declared-eq0.true in
-    rw taken.ensures.kept_after (none_then (rules_of a.lookup) a.held a.kept.now a.piece.now long a.from a.spans.now none)
+    rw taken.ensures.kept_after (none_then (rules_of a.lookup) a.held a.kept.now a.piece.now long a.moved.now a.spans.now none)
 
-pub walk_joined-requires-clause-short : goal.walk_joined-requires-clause-short
-walk_joined-requires-clause-short c =
+pub walk_joined-requires-clause-lengths : goal.walk_joined-requires-clause-lengths
+walk_joined-requires-clause-lengths c =
     let a = c.args in
-    let long = c.requires.short.1 in
+    let long = c.requires.lengths.1 in
     let taken = c.take_in-len in
     let read = c.read-front in
-    let head = here read.result a.lookup a.held a.kept.now a.piece.now long taken.result taken.new.kept read.ensures.0 read.ensures.1 taken.ensures.count taken.ensures.kept_after in
+    let head = here (rules_of a.lookup) a.held a.kept.now a.piece.now long taken.result taken.new.kept read.ensures.0 taken.ensures.count taken.ensures.kept_after in
     let are = c.bytes_in-declared.ensures.0 ∙ ap (bytes_in (a.held + length a.piece.now)) head in
     let few = small_kept (rules_of a.lookup) a.held a.kept.now a.piece.now long c.bytes_in-declared.result _ (omega arith) are c.requires.waits (omega arith) in
-    (few, c.requires.short.0, taken.auto.kept ∙ long)
+    (few, c.requires.lengths.0, taken.auto.kept ∙ long)
 
 pub returns-then-declared-held : goal.returns-then-declared-held
 returns-then-declared-held c =
     let a = c.args in
-    let long = c.requires.short.1 in
+    let long = c.requires.lengths.1 in
     let taken = c.take_in-len in
     let read = c.read-front in
-    let head = here read.result a.lookup a.held a.kept.now a.piece.now long taken.result taken.new.kept read.ensures.0 read.ensures.1 taken.ensures.count taken.ensures.kept_after in
+    let head = here (rules_of a.lookup) a.held a.kept.now a.piece.now long taken.result taken.new.kept read.ensures.0 taken.ensures.count taken.ensures.kept_after in
     let are = c.bytes_in-declared.ensures.0 ∙ ap (bytes_in (a.held + length a.piece.now)) head in
     let few = small_kept (rules_of a.lookup) a.held a.kept.now a.piece.now long c.bytes_in-declared.result _ (omega arith) are c.requires.waits (omega arith) in
     let all : take a.held taken.new.kept ++ a.piece.now ≡ came_bytes a.held a.kept.now a.piece.now =
@@ -64,30 +60,30 @@ returns-then-declared-held c =
     ∙ sym (held_kept (rules_of a.lookup) a.held a.kept.now a.piece.now long few) in
     c.walk_joined.ensures
     ∙ rw (read.ensures.1.0, read.ensures.1.1)
-    (ap₂ (λ (bs ks : List ℕ). moved_of (rules_of a.lookup) bs a.from ks a.spans.now) all taken.ensures.kept_after)
+    (ap₂ (λ (bs ks : List ℕ). moved_of (rules_of a.lookup) bs a.moved.now ks a.spans.now) all taken.ensures.kept_after)
 
 pub walk_on-requires : goal.walk_on-requires
 walk_on-requires c =
     let a = c.args in
-    let long = c.requires.short.1 in
-    let moves = put_moves (a.held + length a.piece.now) _ a.from a.spans.now c.bytes_in-declared.result (omega arith) c.bytes_in-declared.ensures.0 c.put-next.new.spans c.put-next.result c.put-next.ensures in
+    let long = c.requires.lengths.1 in
+    let moves = put_moves (a.held + length a.piece.now) _ a.moved.now a.spans.now c.bytes_in-declared.result (omega arith) c.bytes_in-declared.ensures.0 c.put.new.spans c.put.new.moved c.put.ensures in
     let all = c.take_in-len.auto.kept in
-    let same = c.put-next.auto.spans in
+    let same = c.put.auto.spans in
     simp (tail_part, length-drop) (omega arith)
 
 pub returns : goal.returns
 returns c =
     let a = c.args in
-    let long = c.requires.short.1 in
+    let long = c.requires.lengths.1 in
     let taken = c.take_in-len in
     let read = c.read-front in
     let declared = c.bytes_in-declared in
-    let put = c.put-next in
+    let put = c.put in
     let rules = rules_of a.lookup in
-    let head = here read.result a.lookup a.held a.kept.now a.piece.now long taken.result taken.new.kept read.ensures.0 read.ensures.1 taken.ensures.count taken.ensures.kept_after in
+    let head = here (rules_of a.lookup) a.held a.kept.now a.piece.now long taken.result taken.new.kept read.ensures.0 taken.ensures.count taken.ensures.kept_after in
     let are = declared.ensures.0 ∙ ap (bytes_in (a.held + length a.piece.now)) head in
     c.walk_on.ensures
     ∙ rw (read.ensures.1.0, read.ensures.1.1)
-    (record_then rules a.held a.kept.now a.piece.now long a.from a.spans.now declared.result (omega arith) are c.if-declared-held.false
-    taken.new.kept _ put.new.spans put.result (tail_part a.piece.now (declared.result - a.held)) (rw head at put.ensures))
-    ∙ ap (λ (ks : List ℕ). moved_of rules (came_bytes a.held a.kept.now a.piece.now) a.from ks a.spans.now) taken.ensures.kept_after
+    (record_then rules a.held a.kept.now a.piece.now long a.moved.now a.spans.now declared.result (omega arith) are c.if-declared-held.false
+    taken.new.kept _ put.new.spans put.new.moved (tail_part a.piece.now (declared.result - a.held)) (rw head at put.ensures))
+    ∙ ap (λ (ks : List ℕ). moved_of rules (came_bytes a.held a.kept.now a.piece.now) a.moved.now ks a.spans.now) taken.ensures.kept_after

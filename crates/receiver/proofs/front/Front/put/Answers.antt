@@ -23,12 +23,12 @@ span_of-span-requires c =
     let a = c.args in
     let all = record_in a.self a.left a.declared c.requires.all_in.0 c.requires.all_in.1 in
     let found = sym a.self.sized ∙ c.unwrap-size.ensures in
-    let bounds = rw found at (measured a.self.bytes.now a.self.lookup.word a.self.lookup.flags) in
-    let size = (size_found a.self.bytes.now a.self.lookup.word a.self.lookup.flags found).is in
+    let bounds = rw found at (measured a.self.bytes.now a.self.word a.self.flags) in
+    let size = (size_found a.self.bytes.now a.self.word a.self.flags found).is in
     (omega arith, rw (c.summary_of-summary.ensures, ← all.declares) c.requires.all_in.2, rw (c.summary_of-summary.ensures, ← size) bounds.most)
 
-pub overflow_add-result-2 : goal.overflow_add-result-2
-overflow_add-result-2 c =
+pub overflow_add-moved-2 : goal.overflow_add-moved-2
+overflow_add-moved-2 c =
     let a = c.args in
     let fits = (record_in a.self a.left a.declared c.requires.all_in.0 c.requires.all_in.1).fits in
     omega arith
@@ -37,4 +37,4 @@ pub returns : goal.returns
 returns c =
     let a = c.args in
     rw (c.put.ensures, c.span_of-span.ensures, c.summary_of-summary.ensures)
-    (put_in a.self a.left a.declared c.requires.all_in.0 c.requires.all_in.1 a.from a.spans.now c.is_box.result c.unwrap-size.result c.unwrap-size.ensures c.is_box.ensures)
+    (put_in a.self a.left a.declared c.requires.all_in.0 c.requires.all_in.1 a.moved.now a.spans.now c.is_box.result c.unwrap-size.result c.unwrap-size.ensures c.is_box.ensures)
