@@ -74,6 +74,6 @@ returns c =
     let well = tested a.piece.now a.spans.now c.room_of.result c.room_of.ensures c.if-piece-room_of.false in
     let fit = fits a.piece.now a.spans.now well in
     let used = (ranges a.state.now a.rules.now a.kept.now good).used in
-    rw c.from-state.ensures.0
+    rw c.from-state.ensures
     (feed_taken a.state.now a.rules.now a.piece.now a.kept.now a.spans.now good well c.if-taken.false fit.0 fit.1 a.state.now.stage used
     moved.new.kept moved.new.spans moved.result (rw (rules_are, blocks_are) at moved.ensures))
