@@ -4,14 +4,13 @@ use mathlib.Core.Path.{◌≡◌, refl, sym, ap, ◌∙◌}
 use mathlib.Core.Logic.{◌⊎◌, ⊎_elim}
 use mathlib.Core.Bool.{Bool, true, false, cond}
 use mathlib.Core.List.{List}
-use Prim.Native.Nat.{ℕ, zero, suc, ◌≤◌, ◌<◌}
+use Prim.Native.Nat.{ℕ, zero, suc, ◌<◌}
 use native.Mathlib.Omega.{arith}
 use lib.Dec.{eqb}
 use borrow.Author.Tests.{eq-eqb, ne_eqb, eqb-false}
 use Rattle.std.proofs.Common.{Result, Ok, Err}
-use Rattle.basics.proofs.Orders.{le_or_lt}
 use Rattle.rules.specs.Rules.{flags_of}
-use Rattle.header_judge.specs.Version.{no_word, word_of, ending_of, header_type}
+use Rattle.header_judge.specs.Version.{no_word, word_of, ending_of}
 use Rattle.header_judge.specs.Head.{size_of, declared_of, summary_of, Complete, Head, head_sized, head_with, head_of, declared_by}
 use Rattle.header_judge.specs.Steps.{Known}
 use Rattle.header_judge.specs.declared.Summary.{Summary}

@@ -1,9 +1,9 @@
 // One try: what the header at the start of a slice is, as far as a span row needs it, and the parts that this is made of.
-// The walk calls the parts, which are numbers; `judge` and the decoder are made of the same parts.
+// The walk calls the parts; `judge` and the decoder are made of the same parts.
 #![tactic(auto)]
 
+ghost use Rattle.std.specs.Prelude.{◌≡◌, ◌+◌, ◌*◌, ◌≤◌, ◌<◌, ltb, cond, length, Ok, Err};
 ghost use Rattle.header_judge.specs.declared.NoRecord.TheVariants.{BadHeader};
-ghost use Rattle.std.specs.Prelude.{Ok, Err, cond, ltb, ◌≡◌, ◌+◌, ◌*◌, ◌≤◌, ◌<◌, length};
 ghost use Rattle.header_judge.specs.Steps.{Measured, HeadBounds};
 ghost use Rattle.header_judge.specs.Head.{legacy, record_size, extended_size, sizes_end, unit, declared_of, count_of, shape_of, layout_of, size_of, is_box, summary_of, head_with, head_of, declared_by};
 

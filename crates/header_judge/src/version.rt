@@ -1,6 +1,6 @@
 // The version word at the start of a record: read, taken apart into its fields, and put together again.
 ghost use Rattle.std.specs.Prelude.{◌≡◌, ◌≤◌};
-ghost use Rattle.header_judge.specs.Version.{word_of, ending_of, ending_number, version_of, start_of, InBits, bit, word_from};
+ghost use Rattle.header_judge.specs.Version.{word_of, ending_of, ending_number, version_of, start_of, InBits, word_from};
 
 use answers::stops;
 use le::LittleEndian;
@@ -107,11 +107,4 @@ impl Version {
             + u32::from(self.cldic) * 1073741824
             + u32::from(self.consumed) * 2147483648
     }
-}
-
-// A yes/no as a bit.
-pub fn bit_of(b: bool) -> u32
-    ensures { (result ≡ bit b) × (result ≤ 1) }
-{
-    u32::from(b)
 }

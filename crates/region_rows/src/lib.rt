@@ -29,13 +29,6 @@ pub const TOP: u32 = 4294967295;
 
 const MOST_ROWS: usize = 4294967294;
 
-// The smaller of two numbers.
-pub fn least(a: usize, b: usize) -> usize
-    ensures { result ≡ min a b }
-{
-    a.min(b)
-}
-
 // The rows of a table that are used.
 pub fn room_of(spans: &[u32]) -> u32
     ensures { result ≡ min (capacity spans.now) most_rows }

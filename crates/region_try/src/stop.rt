@@ -51,13 +51,6 @@ impl From<Ending> for Stop {
     }
 }
 
-// The same by a name.
-pub fn stop_ended(ending: Ending) -> Stop
-    ensures { result ≡ stop_ended ending }
-{
-    ending.into()
-}
-
 // The reason where no record is, and the bad type, else 0.
 pub fn stop_at(why: NoRecord) -> (Stop, u32)
     ensures { (result.0 ≡ stop_by (Err why)) × (result.1 ≡ bad_type_by (Err why)) }
