@@ -49,7 +49,7 @@ pub struct Extras {
     pub completion_status_size: u16,
 }
 
-// A layout's number, and the fields that only some layouts have: 0, or no, where this one lacks them.
+// A layout's number, as C has it, and the fields that only some layouts have: 0, or no, where this one lacks them.
 #[derive(Clone, Copy)]
 pub struct Fields {
     pub layout: u8,

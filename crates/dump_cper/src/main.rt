@@ -8,7 +8,7 @@ use std::io;
 // One byte more than the longest CPER.
 const BUFFER_SIZE: usize = MOST_BYTES + 1;
 
-// Prints the text of a CPER.
+// Prints the text of a CPER. `dump` has the same for a region; one function that takes the page's size and the call is no shorter.
 fn print_dump(rt: &impl Print, cper: &[u8]) -> io::Result<()> {
     let mut out = [0u8; text::MOST_CPER_TEXT];
     let n = text::dump_cper(cper, &mut out);

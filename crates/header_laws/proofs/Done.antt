@@ -13,7 +13,7 @@ use Rattle.std.specs.Prelude.{Result, Ok, Err}
 use Rattle.le.specs.Le.{le}
 use Rattle.rules.specs.Rules.{valid_of, flags_of}
 use Rattle.header_judge.specs.Version.{no_word, end_mark, word_of}
-use Rattle.header_judge.specs.Head.{no_size, layout_size, layout_of, count_of, size_for, size_of, summary_of, head_of, Head}
+use Rattle.header_judge.specs.Head.{no_size, layout_size, layout_of, count_of, size_for, summary_of, head_of, Head}
 use Rattle.header_judge.specs.declared.Summary.{Summary}
 use Rattle.header_judge.proofs.Heads.{record_told}
 use Rattle.header_judge.proofs.Sizes.{size_found}

@@ -13,7 +13,8 @@ use region_walk::bounds::Bounds;
 use region_walk::{DEEPEST, Walked};
 use rules::columns::Columns;
 
-// What a listing answers: 'not a CPER' that of a CPER's regions, a bad header or type that of one region.
+// What a listing answers: 'not a CPER' that of a CPER's regions, a bad header or type that of one region. It is no Result: rows and tries are
+// told with every answer, so an error would carry what a success does.
 #[derive(Clone, Copy, Debug, PartialEq, Eq)]
 pub enum Answer {
     Done,

@@ -24,7 +24,7 @@ pub struct Span {
 // The numbers of a row.
 pub const WIDTH: usize = 10;
 
-// The parent row at the top. No row has this number: at most MOST_ROWS rows are used.
+// The parent row at the top, as the C interface has it in a row. No row has this number: at most MOST_ROWS rows are used.
 pub const TOP: u32 = 4294967295;
 
 const MOST_ROWS: usize = 4294967294;

@@ -13,7 +13,7 @@ use header_judge::{NoRecord, Summary};
 use region_rows::Span;
 use stop::{Stop, stop_at};
 
-// What cut a walk off, if anything did.
+// What cut a walk off, if anything did: three plain cases, of which an Option would nest two.
 #[derive(Clone, Copy, Debug, PartialEq, Eq)]
 pub enum Cut {
     Going,

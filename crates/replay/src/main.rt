@@ -49,7 +49,8 @@ fn run<F: Fn(&Case) -> bool>(check: &F, id: usize, bytes: &[u8]) -> Result<(), D
     })
 }
 
-// Reads until a buffer is full or the file ends, and tells how many bytes came. A read that fails ends the file.
+// Reads until a buffer is full or the file ends, and tells how many bytes came. A read that fails ends the file
+// with what has come, which `read_exact` would not tell.
 fn read_full(file: &mut impl Read, buffer: &mut [u8]) -> usize
     ensures { result ≤ length buffer.new }
 {

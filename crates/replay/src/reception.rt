@@ -21,7 +21,7 @@ const MOST_PIECE: usize = 64;
 const MOST_PIECES: usize = 8 * MOST_INPUT;
 
 // How far a reception is: the receiver; how many bytes of the region are taken; the rows wanted that are still to be told; the refusal
-// that ended the pieces, or 0; and whether all was as wanted.
+// that ended the pieces, or 0; and whether all was as wanted. Answers are numbers here, since those that C gets are what is tried.
 #[derive(Drop)]
 struct Progress<'a> {
     receiver: Receiver,
