@@ -1,7 +1,7 @@
 // A rule table laid out by columns (all masks, then all wanted numbers, then all flags), so that a look at several of its rows is one step.
 ghost use Rattle.std.specs.Prelude.{◌≡◌, ◌*◌, ◌%◌, ◌≤◌, length, cond};
 ghost use Rattle.rules.specs.Rules.{flags_of, valid_of};
-ghost use Rattle.rules.specs.Columns.{columns_of, blocks_of, rules_in};
+ghost use Rattle.rules.specs.Columns.{columns_of, blocks_of, rules_in, Blank};
 
 use crate::{EVERY_FLAG, NUMBERS_IN_RULE};
 use std::marker::Model;
@@ -15,7 +15,7 @@ pub const NUMBERS: usize = 192;
 // Rows are looked at in whole blocks, so that no row is left over for a loop of its own.
 const BLOCK: usize = 8;
 
-// A valid table by columns. A clause sees the table.
+// A rule table by columns, where no flag stands past its rows. A clause sees the table.
 #[derive(Drop)]
 pub struct Columns {
     numbers: [u32; NUMBERS],
@@ -34,6 +34,14 @@ impl Model for Columns {
 }
 
 impl Columns {
+    // Some rows by their columns, where no flag stands past them.
+    pub fn new(numbers: [u32; NUMBERS], rows: usize) -> Columns
+        requires { (rows ≤ 64) × Blank numbers rows }
+        ensures { result ≡ rules_in numbers rows }
+    {
+        Columns { numbers, rows }
+    }
+
     // The columns of a table, where it is valid.
     pub fn of(rules: &[u32]) -> Option<Columns>
         ensures { result ≡ cond (valid_of rules.now) (Some rules.now) None }
@@ -41,17 +49,14 @@ impl Columns {
         if !crate::valid(rules) {
             return None;
         }
-        Some(Columns {
-            numbers: columns_of(rules),
-            rows: rules.len() / NUMBERS_IN_RULE,
-        })
+        Some(Columns::new(columns_of(rules), rules.len() / NUMBERS_IN_RULE))
     }
 
-    // The flags of a version word. The rows past the table's, up to the end of a block, add none.
+    // The flags of a version word.
     pub fn flags(&self, word: u32) -> u32
         ensures { result ≡ flags_of self.now word }
     {
-        flags_in(&self.numbers, blocks_of(self.rows), word)
+        flags(&self.numbers, self.rows, word)
     }
 }
 
@@ -68,6 +73,14 @@ pub fn columns_of(rules: &[u32]) -> [u32; NUMBERS]
         columns[row + 2 * COLUMN] = rules[at + 2];
     }
     columns
+}
+
+// The flags of a version word under the first rows. The rows past them, up to the end of a block, add none.
+pub fn flags(columns: &[u32; NUMBERS], rows: usize, word: u32) -> u32
+    requires { (rows ≤ 64) × Blank columns.now rows }
+    ensures { result ≡ flags_of (rules_in columns.now rows) word }
+{
+    flags_in(columns, blocks_of(rows), word)
 }
 
 // The blocks that some rows need.

@@ -41,7 +41,7 @@ impl Sieve {
 }
 
 // The bits that all rows look at.
-fn shared_mask(rules: &[u32]) -> u32
+pub fn shared_mask(rules: &[u32]) -> u32
     ensures { result ≡ shared_mask rules.now }
 {
     rules::rows_of(rules)

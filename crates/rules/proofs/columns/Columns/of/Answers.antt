@@ -11,8 +11,8 @@ use Rattle.rules.proofs.columns.Columns.of.Goals as goal
 pub columns_of-requires : goal.columns_of-requires
 columns_of-requires c = valid_rows c.args.rules.now (sym c.valid.ensures ∙ c.if-not-valid.false)
 
-pub invariant_of-result : goal.invariant_of-result
-invariant_of-result c =
+pub new-requires : goal.new-requires
+new-requires c =
     let rules = c.args.rules.now in
     let whole = valid_rows rules (sym c.valid.ensures ∙ c.if-not-valid.false) in
     (omega (arith, whole.1), rw c.columns_of.ensures (columns_hold rules whole.0 whole.1).blank)
@@ -22,4 +22,4 @@ returns c =
     let rules = c.args.rules.now in
     let valid : valid_of rules ≡ true = sym c.valid.ensures ∙ c.if-not-valid.false in
     let whole = valid_rows rules valid in
-    rw (valid, c.columns_of.ensures, (columns_hold rules whole.0 whole.1).held)
+    rw (valid, c.new.ensures, c.columns_of.ensures, (columns_hold rules whole.0 whole.1).held)
