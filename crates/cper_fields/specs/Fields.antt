@@ -1,4 +1,4 @@
--- What the record header and the section descriptor share: validated fields, severities, parts of bytes.
+-- What the record header and the section descriptor share: severities, and fields of bytes that may be absent.
 use Rattle.std.specs.Prelude.{ℕ, ◌+◌, List, ◌++◌, Bool, cond, eqb, take, drop, replicate, Option, unwrap_or}
 use Rattle.cper_fields.specs.declared.Severity.{Severity}
 use Rattle.cper_fields.specs.declared.Severity.TheVariants.{Recoverable, Fatal, Corrected, Informational}

@@ -32,7 +32,7 @@ pub struct Place {
     pub length: u32,
 }
 
-// The number of a call's answer.
+// The number of a call's answer: of the whole Result, since a conversion of a refusal would leave the 0 of `Ok` to each caller.
 pub fn number_of<T: Copy>(told: Result<T, Refusal>) -> u32
     ensures { result ≡ number_of told }
 {
