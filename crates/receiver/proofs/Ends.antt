@@ -17,7 +17,6 @@ use Rattle.region_rows.proofs.Rows.{stored_none, stored_more, stored_laid, laid_
 use Rattle.region_try.specs.Stops.{stop_by, bad_type_by, stop_of, bad_type_of}
 use Rattle.region_try.specs.Tries.{Try, none, hit, try_of, span_of, rows_found, stands_at}
 use Rattle.region_try.specs.Whole.{clean_stop, filled, box_unopened, keeps_whole, all_keep_whole}
-use Rattle.region_try.specs.declared.stop.Stop.{Stop}
 use Rattle.region_try.specs.declared.stop.Stop.TheVariants.{EndOfInput, SizeZero}
 use Rattle.region_try.proofs.Heads.{none_level}
 use Rattle.region.specs.declared.Listing.{Listing}
