@@ -108,7 +108,7 @@ impl Page<'_> {
         self.count(b" tries ", listing.tries);
         self.text(b" whole ");
         self.whole(listing.whole);
-        self.count(b" answer ", u64::from(u32::from(listing.answer)));
+        self.count(b" answer ", u32::from(listing.answer) as u64);
         self.text(b"\n");
     }
 }
