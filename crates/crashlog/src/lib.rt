@@ -1,4 +1,5 @@
-// The functions that C is to have, over slices, numbers and plain structs, each a thin call of a proved function; crashlog_c exports them.
+// The functions that C is to have, over slices, numbers and plain structs, each a call of a proved function, whose result is told in numbers; crashlog_c
+// exports them, since a crate is a library or an archive for C and not both.
 // A call gives its answer by document 01's number; what else it tells is written into what is lent for it. include/crashlog.h documents them for C.
 #![tactic(auto)]
 

@@ -1,5 +1,4 @@
-// The header that some bytes start with, as far as a record's bytes and its row need it. It is read by its parts, which are numbers, for
-// speed.
+// The header that some bytes start with, as far as a record's bytes and its row need it: read by its parts, as the walks read it.
 ghost use Rattle.std.specs.Prelude.{◌≡◌};
 ghost use Rattle.header_judge.specs.Head.{size_of};
 

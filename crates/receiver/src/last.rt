@@ -18,7 +18,7 @@ use region_rows::TOP;
 use region_try::Cut;
 use region_try::stop::{Stop, clean_stop, stop_at};
 
-// The listing of a walk that is not cut off: its rows are those that are written now, the answer goes by all of them.
+// The listing of a walk that is not cut off: its rows are those that this call writes, the answer goes by all of them.
 fn listing_at(
     all_rows: u32,
     written: u32,
