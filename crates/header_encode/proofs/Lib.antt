@@ -1,3 +1,4 @@
+pub mod Layouts
 pub mod Fitting
 pub mod Tables
 pub mod Encoded

@@ -5,7 +5,8 @@ use Rattle.rules.specs.Rules.{valid_of, flags_of}
 use Rattle.header_judge.specs.Version.{no_word, end_mark, word_from}
 use Rattle.header_judge.specs.Head.{layout_of}
 use Rattle.header_judge.specs.declared.version.Version.{Version}
-use Rattle.header_judge.specs.contracts.LayoutPartialEq.TheImpl as layouts
+use Rattle.header_judge.specs.declared.Layout.{Layout}
+use Rattle.header_judge.specs.declared.Layout.TheVariants.{Zero, One, Two, Three, Four, Five, Six, LegacyServer, LegacyGpu, Bad}
 use Rattle.header.specs.Access.{layout_in, header_size}
 use Rattle.header.specs.declared.Header.{Header}
 use Rattle.header.specs.declared.HeaderType.{HeaderType}
@@ -25,9 +26,22 @@ version_fits v =
 abbrev pub readable : ℕ → Bool
 readable word = not (eqb word no_word) && not (eqb word end_mark)
 
--- the layout is the one that flags and type choose, as `==` compares layouts
+-- the layouts by number: the header type, then the two legacy layouts
+abbrev pub layout_number : Layout → ℕ
+layout_number Zero = 0
+layout_number One = 1
+layout_number Two = 2
+layout_number Three = 3
+layout_number Four = 4
+layout_number Five = 5
+layout_number Six = 6
+layout_number LegacyServer = 7
+layout_number LegacyGpu = 8
+layout_number Bad = 9
+
+-- the layout is the one that flags and type choose
 abbrev pub layout_fits : List ℕ → ℕ → HeaderType → Bool
-layout_fits rules word t = (layouts.ghosts).eq (layout_of word (flags_of rules word)) (layout_in t)
+layout_fits rules word t = eqb (layout_number (layout_of word (flags_of rules word))) (layout_number (layout_in t))
 
 unfoldable pub encodable : List ℕ → Header → Bool
 encodable rules h =

@@ -92,7 +92,7 @@ fn fields_fit(header_type: HeaderType, revision: u32, extended: u16) -> bool
 }
 
 // Whether a header can be encoded under a rule table.
-#[tactic(auto, unfolding(crate::specs::Encode::encodable))]
+#[tactic(auto, using(crate::proofs::Layouts::equal_numbers), unfolding(crate::specs::Encode::encodable))]
 fn can_encode(header: Header, rules: &[u32]) -> bool
     ensures { result ≡ encodable rules.now header }
 {

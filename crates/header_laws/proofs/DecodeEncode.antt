@@ -30,12 +30,13 @@ use Rattle.std.specs.Prelude.{Result, Ok}
 use Rattle.header_write.specs.Values.{values_for, values_of, header_bytes}
 use Rattle.header_write.specs.Fit.{fields_fit}
 use Rattle.header_encode.specs.Encode.{encodable, encoded_of}
+use Rattle.header_encode.proofs.Layouts.{same_number}
 use Rattle.header_encode.proofs.Fitting.{in_bits, can_version, can_read, can_choose, can_fit, can_count}
 use Rattle.header_encode.proofs.Tables.{tables_full, length_values}
 use Rattle.header_laws.specs.Typed.{Typed}
 use Rattle.header_laws.specs.Rounds.{cleared, decoded_as}
 use Rattle.header_laws.proofs.Version.{version_word, word_lt}
-use Rattle.header_laws.proofs.Layouts.{shape_for, shape_read, is_legacy, legacy_layout, sizes_within, same_layout}
+use Rattle.header_laws.proofs.Layouts.{shape_for, shape_read, is_legacy, legacy_layout, sizes_within}
 use Rattle.header_laws.proofs.Numbers.{Parts, parts, header_with, parts_from, parts_at, parts_read, header_read, parts_values, below_values}
 use Rattle.header_laws.proofs.Agree.{record_decoded}
 use Rattle.header_encode.proofs.Encoded.{encoded_is}
@@ -100,7 +101,7 @@ module _ (rules : List ℕ) (valid : valid_of rules ≡ true) (h : Header) (can 
   parts_are = parts_read bs t n ∙ ap (parts_from l) numbers ∙ parts_values word h.size ws t fit
 
   layout_is : layout_of word flags ≡ l
-  layout_is = same_layout (layout_of word flags) l (can_choose rules h can)
+  layout_is = same_number (layout_of word flags) l (can_choose rules h can)
 
   legacy_is : legacy flags ≡ is_legacy l
   legacy_is = legacy_layout word flags ∙ ap is_legacy layout_is

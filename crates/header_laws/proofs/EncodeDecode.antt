@@ -23,12 +23,13 @@ use Rattle.header_write.specs.Values.{values_for, values_of, header_bytes}
 use Rattle.header_write.specs.Fit.{fields_fit}
 use Rattle.header_encode.specs.Encode.{version_fits, encodable, encoded_of}
 use Rattle.std.specs.Prelude.{Ok}
+use Rattle.header_encode.proofs.Layouts.{number_same}
 use Rattle.header_encode.proofs.Fitting.{as_fit}
 use Rattle.header_encode.proofs.Tables.{tables_full}
 use Rattle.header_laws.specs.Typed.{Bytes}
 use Rattle.header_laws.specs.Rounds.{unread_zero, restored}
 use Rattle.header_laws.proofs.Version.{word_version}
-use Rattle.header_laws.proofs.Layouts.{layout_from, shape_for, shape_read, layout_same}
+use Rattle.header_laws.proofs.Layouts.{layout_from, shape_for, shape_read}
 use Rattle.header_laws.proofs.Numbers.{Parts, header_with, parts_at, header_read}
 use Rattle.header_laws.proofs.Unread.{fits_read, values_read, unread_bytes}
 use Rattle.header_laws.proofs.Done.{Known, done_known, known_decoded}
@@ -74,7 +75,7 @@ module _ (rules bs : List ℕ) (bytes : Bytes bs) (found : Known rules bs) where
       let chosen = ap (λ (w : ℕ). layout_of w (flags_of rules w)) word_back ∙ sym layout_is in
       sym
       (as_fit rules h (version_fits_lem word) (λ e. found.there (sym word_back ∙ e)) (λ e. found.unmarked (sym word_back ∙ e))
-      (layout_same (layout_of (word_from (version_of word)) (flags_of rules (word_from (version_of word)))) (layout_in p.fields) chosen))
+      (number_same (layout_of (word_from (version_of word)) (flags_of rules (word_from (version_of word)))) (layout_in p.fields) chosen))
       ∙ ap (λ (w : ℕ). fields_fit p.fields (revision w) p.size.extended_record_size) found.word_is
       ∙ fits_read bs l n
 

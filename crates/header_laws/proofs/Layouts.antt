@@ -1,4 +1,4 @@
--- What holds of every layout: which one a header's fields are of, what a count decides, which ones are legacy, and when two are the same.
+-- What holds of every layout: which one a header's fields are of, what a count decides, and which ones are legacy.
 -- Layout for layout. Assumes nothing.
 use mathlib.Core.Path.{◌≡◌, refl, ap}
 use mathlib.Core.Bool.{Bool, true, false, cond, ◌||◌}
@@ -6,9 +6,6 @@ use mathlib.Core.List.{List}
 use Prim.Native.Nat.{ℕ, zero, suc, ◌≤◌, ◌<◌}
 use native.Mathlib.Omega.{arith}
 use lib.ListN.{length}
-use Rattle.header_judge.specs.contracts.Layout as layout
-use denote.Enum.Declared.{declared}
-use denote.Enum.Bare.{same_true, true_same}
 use Rattle.le.specs.Le.{le}
 use Rattle.layout.specs.Fields.{Field, read_all}
 use Rattle.basics.specs.Bits.{has}
@@ -22,7 +19,6 @@ use Rattle.header.specs.Layouts.{table_of, type_from}
 use Rattle.header.specs.Access.{layout_in, count_in, header_size}
 use Rattle.header.specs.declared.HeaderType.{HeaderType}
 use Rattle.header.specs.declared.HeaderType.TheVariants.{Type0, Type1, Type2, Type3, Type4, Type5, Type6, Type0LegacyServer, Type0LegacyGpu}
-use Rattle.header_judge.specs.contracts.LayoutPartialEq.TheImpl as layouts
 
 -- ---- the layout and the count of the fields that are read
 
@@ -102,11 +98,3 @@ sizes_within (Type5 p s e) = omega arith
 sizes_within (Type6 p d k n c) = omega arith
 sizes_within (Type0LegacyServer p d k s) = omega arith
 sizes_within (Type0LegacyGpu p s) = omega arith
-
--- ---- whether two layouts are the same
-
-pub same_layout : (l k : Layout) → (layouts.ghosts).eq l k ≡ true → l ≡ k
-same_layout l k e = same_true (declared layout.enum) tt l k e
-
-pub layout_same : (l k : Layout) → l ≡ k → (layouts.ghosts).eq l k ≡ true
-layout_same l k e = true_same (declared layout.enum) l k e
