@@ -2,7 +2,7 @@
 use Rattle.std.specs.Prelude.{ℕ, cond, List, [], ◌∷◌, Option, Some, None, Result, Ok, Err}
 use Rattle.answers.specs.Numbers.{done}
 use Rattle.rules.specs.Rules.{valid_of}
-use Rattle.header.specs.Header.{number_of, type_told, ending_told}
+use Rattle.header.specs.Header.{answer_of, type_told, ending_told}
 use Rattle.header.specs.declared.Header.{Header}
 use Rattle.header.specs.declared.Decoded.{Decoded}
 use Rattle.header.specs.declared.Refusal.{Refusal as Refused}
@@ -21,10 +21,18 @@ told_done declared size flags = declared ∷ size ∷ flags ∷ 0 ∷ 0 ∷ []
 abbrev pub told_refused : Refused → List ℕ
 told_refused refusal = 0 ∷ 0 ∷ 0 ∷ type_told refusal ∷ ending_told refusal ∷ []
 
--- the header behind the pointer, which is a new one with answer 0 alone; what is told; the answer
+abbrev pub told_of : Result Decoded Refused → List ℕ
+told_of (Ok d) = told_done d.declared d.header_size d.flags
+told_of (Err refusal) = told_refused refusal
+
+-- the header behind the pointer, which is a new one with answer 0 alone
+abbrev pub header_left : CHeader → Result Decoded Refused → CHeader
+header_left old (Ok d) = header_out d.header
+header_left old (Err refusal) = old
+
+-- that header, what is told, and the answer
 unfoldable pub decode_out : CHeader → Result Decoded Refused → CHeader × List ℕ × ℕ
-decode_out old (Ok d) = (header_out d.header, told_done d.declared d.header_size d.flags, done)
-decode_out old (Err refusal) = (old, told_refused refusal, number_of refusal)
+decode_out old d = (header_left old d, told_of d, answer_of d)
 
 -- ---- encode
 
