@@ -23,7 +23,7 @@ sound_out : (h : Header) (t : HeaderType) → sound (flat h (fields_of t)) ≡ t
 unfolding sound
 sound_out h t = rw (small h.version.cldic, small h.version.consumed) (by t)
   where
-    by : (t : HeaderType) → (not (has_complete (fields_of t).layout) || leb (from_bool (fields_of t).status.collection_complete) 1) ≡ true
+    by : (t : HeaderType) → leb (fields_of t).layout 8 && (not (has_complete (fields_of t).layout) || leb (from_bool (fields_of t).status.collection_complete) 1) ≡ true
     by Type0 = refl
     by Type1 = refl
     by (Type2 p) = refl

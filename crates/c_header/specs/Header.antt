@@ -93,9 +93,11 @@ header_out h = flat h (fields_of h.header_type)
 abbrev pub has_complete : ℕ → Bool
 has_complete layout = eqb layout 3 || ltb 4 layout
 
--- each yes/no that the header has is 1 or 0
+-- the layout is one, and each yes/no that the header has is 1 or 0
 unfoldable pub sound : CHeader → Bool
-sound c = leb c.cldic 1 && (leb c.consumed 1 && (not (has_complete c.layout) || leb c.collection_complete 1))
+sound c =
+    leb c.layout 8
+    && (leb c.cldic 1 && (leb c.consumed 1 && (not (has_complete c.layout) || leb c.collection_complete 1)))
 
 abbrev pub fields_in : CHeader → Fields
 fields_in c =

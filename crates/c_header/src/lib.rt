@@ -58,6 +58,8 @@ pub struct Fields {
     pub extras: Extras,
 }
 
+const LAST_LAYOUT: u8 = 8;
+
 const NO_STAMP: Stamp = Stamp {
     timestamp: 0,
     agent_version: 0,
@@ -210,12 +212,15 @@ fn has_complete(layout: u8) -> bool
     layout == 3 || 4 < layout
 }
 
-// Whether each yes/no that the header has is 1 or 0.
+// Whether the layout is one, and each yes/no that the header has is 1 or 0.
 #[tactic(auto, unfolding(crate::specs::Header::sound))]
 fn is_sound(c: CHeader) -> bool
     ensures { result ≡ sound c }
 {
-    c.cldic <= 1 && c.consumed <= 1 && (!has_complete(c.layout) || c.collection_complete <= 1)
+    c.layout <= LAST_LAYOUT
+        && c.cldic <= 1
+        && c.consumed <= 1
+        && (!has_complete(c.layout) || c.collection_complete <= 1)
 }
 
 fn fields_in(c: CHeader) -> Fields
