@@ -1,6 +1,6 @@
 -- The status words as a loop reads them: a run read one word further, and the zeros past it one fewer.
 -- By induction over the run. Assumes nothing.
-use mathlib.Core.Path.{◌≡◌, sym, ap, ap₂, ◌∙◌}
+use mathlib.Core.Path.{◌≡◌, refl, sym, ap, ap₂, ◌∙◌}
 use mathlib.Core.List.{List, [], ◌∷◌, ◌++◌}
 use Prim.Native.Nat.{ℕ, suc, ◌+◌, ◌*◌, ◌-◌, ◌<◌}
 use native.Mathlib.Omega.{arith}
@@ -11,7 +11,11 @@ use Rattle.layout.specs.Fields.{Field, field, read_all}
 use Rattle.layout.specs.Runs.{cells}
 use Rattle.layout.proofs.Fields.{length_read}
 use Rattle.layout.proofs.Runs.{length-cells, last_cell, read_append}
-use Rattle.header.specs.Layouts.{padded}
+use Rattle.header_judge.specs.declared.Layout.{Layout}
+use Rattle.header_judge.specs.declared.Layout.TheVariants.{Zero, One, Two, Three, Four, Five, Six, LegacyServer, LegacyGpu, Bad}
+use Rattle.header_judge.specs.Head.{count_of}
+use Rattle.header.specs.Layouts.{padded, statuses_from}
+use Rattle.header.specs.Header.{numbers_of}
 
 -- the last number of a run
 read_last : (bs : List ℕ) (at w n : ℕ) → read_all (cells at w (suc n)) bs ≡ read_all (cells at w n) bs ++ (le w bs (at + w * n) ∷ [])
@@ -44,3 +48,22 @@ words_more bs ws n x h e f =
     ∙ padded_more (read_all (cells 28 4 n) bs) n (le 4 bs (28 + 4 * n)) (length-words bs n) h
     ∙ ap padded (sym (read_last bs 28 4 n))
     ∙ ap (λ (k : ℕ). padded (read_all (cells 28 4 k) bs)) next
+
+-- ---- the status words of a layout
+
+pub statuses_six : (bs : List ℕ) → padded (read_all (cells 28 4 (count_of bs)) bs) ≡ statuses_from (numbers_of bs Six)
+unfolding numbers_of read_all
+statuses_six bs = refl
+
+pub statuses_none : (bs : List ℕ) (l : Layout) → (l ≡ Six → ⊥) → replicate 127 0 ≡ statuses_from (numbers_of bs l)
+unfolding numbers_of read_all
+statuses_none bs Zero f = refl
+statuses_none bs One f = refl
+statuses_none bs Two f = refl
+statuses_none bs Three f = refl
+statuses_none bs Four f = refl
+statuses_none bs Five f = refl
+statuses_none bs Six f = absurd (f refl)
+statuses_none bs LegacyServer f = refl
+statuses_none bs LegacyGpu f = refl
+statuses_none bs Bad f = refl

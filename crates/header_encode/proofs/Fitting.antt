@@ -1,11 +1,11 @@
 -- Whether a header can be encoded, by its parts, and what follows where it can.
 -- By the parts of the conjunctions. Assumes nothing.
 use mathlib.Core.Path.{◌≡◌}
-use mathlib.Core.Bool.{Bool, true, ◌&&◌}
+use mathlib.Core.Bool.{Bool, true, false, ◌&&◌}
 use mathlib.Core.List.{List}
 use Prim.Native.Nat.{ℕ, ◌≤◌}
 use lib.Dec.{ltb}
-use borrow.Author.Tests.{ltb-true, ne_eqb}
+use borrow.Author.Tests.{ltb-true, eq-eqb, ne_eqb}
 use Rattle.basics.proofs.Bools.{both}
 use Rattle.header_judge.specs.Version.{InBits, no_word, end_mark, word_from}
 use Rattle.header_judge.specs.declared.version.Version.{Version}
@@ -41,6 +41,24 @@ module _ (rules : List ℕ) (h : Header) where
 
   abbrev chosen : Bool
   chosen = layout_fits rules word h.header_type
+
+  -- ---- the refusals, in their order
+
+  pub not_in_bits : version_fits h.version ≡ false → false ≡ encodable rules h
+  unfolding encodable
+  not_in_bits e = rw e
+
+  pub not_zero : version_fits h.version ≡ true → word ≡ no_word → false ≡ encodable rules h
+  unfolding encodable
+  not_zero e f = rw (e, eq-eqb word no_word f)
+
+  pub not_marked : version_fits h.version ≡ true → (word ≡ no_word → ⊥) → word ≡ end_mark → false ≡ encodable rules h
+  unfolding encodable
+  not_marked e z f = rw (e, ne_eqb word no_word z, eq-eqb word end_mark f)
+
+  pub not_chosen : version_fits h.version ≡ true → (word ≡ no_word → ⊥) → (word ≡ end_mark → ⊥) → chosen ≡ false → false ≡ encodable rules h
+  unfolding encodable
+  not_chosen e z m f = rw (e, ne_eqb word no_word z, ne_eqb word end_mark m, f)
 
   pub as_fit : version_fits h.version ≡ true → (word ≡ no_word → ⊥) → (word ≡ end_mark → ⊥) → chosen ≡ true → fit ≡ encodable rules h
   unfolding encodable

@@ -1,21 +1,21 @@
--- Sizes and layouts: what is known of a size that is found, and of the types that have none.
+-- Sizes and layouts by what the flags and the bytes are: what is known of a size that is found, and of the types that have none.
 -- By the tests of the definitions, in their order. Assumes nothing.
-use mathlib.Core.Path.{◌≡◌, refl, ap, ◌∙◌}
+use mathlib.Core.Path.{◌≡◌, refl, sym, ap, ◌∙◌}
 use mathlib.Core.Bool.{Bool, true, false, cond, ◌||◌}
-use mathlib.Core.List.{List}
+use mathlib.Core.List.{List, [], ◌∷◌}
 use mathlib.Core.Logic.{◌⊎◌, ⊎_elim, inl, inr}
 use Prim.Native.Nat.{ℕ, zero, suc, ◌+◌, ◌*◌, ◌%◌, ◌≤◌, ◌<◌}
 use native.Mathlib.Omega.{arith}
-use lib.Dec.{eqb, ltb}
-use lib.ListN.{length, get_or}
-use borrow.Author.Tests.{le-ltb, ltb-false, eqb-true, eqb-false}
+use lib.Dec.{eqb, ltb, leb}
+use lib.ListN.{length, get_or, get_or-eq_default}
+use borrow.Author.Tests.{lt-ltb, le-ltb, ltb-false, leb-true, leb-false, eqb-true, eqb-false}
 use Rattle.std.proofs.Common.{Result, Ok, Err}
 use Rattle.le.specs.Le.{le}
 use Rattle.le.proofs.Laws.{le_lt}
 use Rattle.basics.specs.Bits.{has}
 use Rattle.rules.specs.Rules.{legacy_server, legacy_gpu, sizes_in_bytes}
 use Rattle.header_judge.specs.Version.{header_type}
-use Rattle.header_judge.specs.Head.{legacy, sizes_end, declared_of, type_layout, layout_of, no_size, size_for, count_of, layout_size, size_of, Complete}
+use Rattle.header_judge.specs.Head.{legacy, record_size, extended_size, sizes_end, unit, declared_of, type_layout, layout_of, no_size, size_for, count_of, layout_size, sized, size_of, Complete}
 use Rattle.header_judge.specs.Steps.{Measured, HeadBounds}
 use Rattle.header_judge.specs.declared.NoRecord.{NoRecord}
 use Rattle.header_judge.specs.declared.NoRecord.TheVariants.{Ended, BadHeader, BadType}
@@ -23,6 +23,13 @@ use Rattle.header_judge.specs.declared.Layout.{Layout}
 use Rattle.header_judge.specs.declared.Layout.TheVariants.{Zero, One, Two, Three, Four, Five, Six, LegacyServer, LegacyGpu, Bad}
 
 -- ---- the size fields
+
+module _ (bs : List ℕ) (flags : ℕ) where
+  pub legacy_sizes : legacy flags ≡ true → (le 2 bs 16 ≡ record_size bs flags) × (0 ≡ extended_size bs flags)
+  legacy_sizes e = (rw e, rw e)
+
+  pub plain_sizes : legacy flags ≡ false → (le 2 bs 4 ≡ record_size bs flags) × (le 2 bs 6 ≡ extended_size bs flags)
+  plain_sizes e = (rw e, rw e)
 
 module _ (flags : ℕ) where
   pub legacy_end : legacy flags ≡ true → sizes_end flags ≡ 18
@@ -38,6 +45,12 @@ module _ (flags : ℕ) where
       by true = omega arith
       by false = omega arith
 
+  pub unit_one : has flags sizes_in_bytes ≡ true → unit flags ≡ 1
+  unit_one e = rw e
+
+  pub unit_four : has flags sizes_in_bytes ≡ false → unit flags ≡ 4
+  unit_four e = rw e
+
 -- a record of bytes declares 524,280 at most
 pub declared_most : (bs : List ℕ) → ((k : ℕ) → get_or bs k 0 < 256) → (flags : ℕ) → declared_of bs flags ≤ 524280
 unfolding declared_of
@@ -52,6 +65,9 @@ declared_most bs bytes flags = by (legacy flags) (has flags sizes_in_bytes)
 -- ---- the count
 
 module _ (bs : List ℕ) where
+  pub count_short : length bs < 28 → 0 ≡ count_of bs
+  count_short h = rw (lt-ltb (length bs) 28 h)
+
   pub count_there : 28 ≤ length bs → (half : ℕ) → half ≡ le 2 bs 26 → half % 128 ≡ count_of bs
   count_there h half e = rw (le-ltb (length bs) 28 h, e)
 
@@ -64,7 +80,19 @@ module _ (bs : List ℕ) where
 
 -- ---- the layout
 
+pub layout_bad : (t : ℕ) → 7 ≤ t → Bad ≡ type_layout t
+layout_bad t h = sym (get_or-eq_default (Zero ∷ One ∷ Two ∷ Three ∷ Four ∷ Five ∷ Six ∷ []) Bad h)
+
 module _ (word flags : ℕ) where
+  pub layout_server : has flags legacy_server ≡ true → LegacyServer ≡ layout_of word flags
+  layout_server e = rw e
+
+  pub layout_gpu : has flags legacy_server ≡ false → has flags legacy_gpu ≡ true → LegacyGpu ≡ layout_of word flags
+  layout_gpu e f = rw (e, f)
+
+  pub layout_typed : has flags legacy_server ≡ false → has flags legacy_gpu ≡ false → type_layout (header_type word) ≡ layout_of word flags
+  layout_typed e f = rw (e, f)
+
   -- a legacy layout, by either flag
   legacy_size : (count : ℕ) → legacy flags ≡ true → 32 ≡ size_for (layout_of word flags) count
   legacy_size count e = by (has flags legacy_server) (has flags legacy_gpu) e
@@ -85,6 +113,31 @@ module _ (word flags : ℕ) where
 -- ---- a size that is found
 
 module _ (bs : List ℕ) (word flags : ℕ) where
+  pub size_short : length bs < sizes_end flags → Err BadHeader ≡ size_of bs word flags
+  unfolding size_of
+  size_short h = rw (lt-ltb (length bs) (sizes_end flags) h)
+
+  -- where the size fields are there, the layout's size decides
+  pub size_sized : sizes_end flags ≤ length bs → sized bs word (layout_size bs word flags) ≡ size_of bs word flags
+  unfolding size_of
+  size_sized h = rw (le-ltb (length bs) (sizes_end flags) h)
+
+  pub size_legacy : legacy flags ≡ true → sized bs word 32 ≡ size_of bs word flags
+  size_legacy e = by (leb 18 (length bs)) refl
+    where
+      by : (b : Bool) → leb 18 (length bs) ≡ b → sized bs word 32 ≡ size_of bs word flags
+      by true t =
+          let h : 18 ≤ length bs = leb-true 18 (length bs) t in
+          ap (λ (size : ℕ). sized bs word size) (legacy_size word flags (count_of bs) e) ∙ size_sized (omega (arith, legacy_end flags e))
+      by false t =
+          let h : length bs < 18 = leb-false 18 (length bs) t in
+          rw (lt-ltb (length bs) 32 (omega arith)) (size_short (omega (arith, legacy_end flags e)))
+
+  pub size_typed : legacy flags ≡ false → 8 ≤ length bs → sized bs word (size_for (type_layout (header_type word)) (count_of bs)) ≡ size_of bs word flags
+  size_typed e h =
+      let ends : sizes_end flags ≡ 8 = plain_end flags e in
+      ap (λ (l : Layout). sized bs word (size_for l (count_of bs))) (plain_layout word flags e) ∙ size_sized (omega arith)
+
   -- where the size fields and the header are there, the type alone decides
   pub size_long : sizes_end flags ≤ length bs → layout_size bs word flags ≤ length bs
       → size_of bs word flags ≡ cond (eqb (layout_size bs word flags) no_size) (Err (BadType (header_type word))) (Ok (layout_size bs word flags))

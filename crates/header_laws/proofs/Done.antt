@@ -13,10 +13,10 @@ use Rattle.std.specs.Prelude.{Result, Ok, Err}
 use Rattle.le.specs.Le.{le}
 use Rattle.rules.specs.Rules.{valid_of, flags_of}
 use Rattle.header_judge.specs.Version.{no_word, end_mark, word_of}
-use Rattle.header_judge.specs.Head.{no_size, layout_size, layout_of, count_of, size_for, summary_of, head_of, Head}
+use Rattle.header_judge.specs.Head.{no_size, layout_size, layout_of, count_of, size_for, size_of, summary_of, head_of, Head}
 use Rattle.header_judge.specs.declared.Summary.{Summary}
 use Rattle.header_judge.proofs.Heads.{record_told}
-use Rattle.header_judge.proofs.Sizes.{size_found}
+use Rattle.header_judge.proofs.Sizes.{size_found, complete}
 use Rattle.header.specs.Header.{judged_from, judged_of, decoded_from, decoded_of}
 use Rattle.header.specs.declared.Refusal.{Refusal}
 use Rattle.header.specs.declared.Refusal.TheVariants.{BadRules}
@@ -68,6 +68,7 @@ module _ (rules bs : List ℕ) where
     pub there : word ≡ no_word → ⊥
     pub word_is : word ≡ le 4 bs 0
     pub unmarked : word ≡ end_mark → ⊥
+    pub size : size_of bs word flags ≡ Ok (size_for (layout_of word flags) (count_of bs))
     pub some : 0 < size_for (layout_of word flags) (count_of bs)
     pub room : size_for (layout_of word flags) (count_of bs) ≤ length bs
     pub head : head_of rules bs ≡ Ok here
@@ -90,6 +91,7 @@ module _ (rules bs : List ℕ) where
             there = there;
             word_is = (word_read bs there).0;
             unmarked = (word_read bs there).1;
+            size = complete bs word flags told.found;
             some = omega arith;
             room = size.within;
             head = head;
