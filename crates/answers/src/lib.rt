@@ -1,5 +1,5 @@
 // Document 01, 'Numbers the caller gets': the number of each answer, and the longest input that is looked at.
-// They are numbers here alone, since the C interface has them (include/crashlog.h): each crate has an enum of its own answers.
+// They are numbers here alone, since the C interface has them (include/crashlog.h): each crate has an enum of its own refusals.
 #![tactic(auto)]
 
 pub mod stops;

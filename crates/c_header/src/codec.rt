@@ -39,7 +39,7 @@ pub fn header_at(bytes: &[u8], judged: Judged) -> CHeader
     header_out(header::header_of(bytes, judged.word, judged.flags))
 }
 
-// A header's bytes into an output: what the encoder answers, which tests the rules itself. A header that is none is 2 or 11.
+// A header's bytes into an output: what the encoder answers, which tests the rules itself. A header that is none is a bad field, which bad rules come before.
 pub fn encode(header: CHeader, rules: &[u32], out: &mut [u8]) -> Result<usize, Refusal>
     ensures { (out.new, result) ≡ encoded_in rules.now (taken_of header) out.old }
 {

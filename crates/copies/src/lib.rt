@@ -1,4 +1,4 @@
-// One copy of items: by a loop, so that the C library asks no function of its caller for it.
+// One copy of items: by a loop, so that the C library asks its caller for `memcpy` and `memset` alone. std's copy asks for `memmove` too.
 #![tactic(auto)]
 
 ghost use Rattle.std.specs.Prelude.{◌≡◌, length};

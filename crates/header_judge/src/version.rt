@@ -24,7 +24,8 @@ pub enum Ending {
     FewBytes,
 }
 
-// What stands for a word where the records have ended: 0, which is no word of a record, so that the walk has a word as one number.
+// What stands for a word where there is none: the records have ended, or, in what a walk remembers, no word was looked up yet.
+// It is 0, which is no word of a record, so that the walk has a word as one number.
 pub const NO_WORD: u32 = 0;
 
 // The word that marks the end of the records, beside 0.
