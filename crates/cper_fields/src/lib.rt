@@ -40,10 +40,17 @@ impl From<Severity> for u32 {
 }
 
 // A number where it is present, else 0.
-pub fn number_if(held: bool, number: u32) -> u32
+pub fn long_if(held: bool, number: u64) -> u64
     ensures { (result ≡ number_if held number) × (result ≤ number) }
 {
     if held { number } else { 0 }
+}
+
+// The same for a number of four bytes.
+pub fn number_if(held: bool, number: u32) -> u32
+    ensures { (result ≡ number_if held number) × (result ≤ number) }
+{
+    long_if(held, number as u64) as u32
 }
 
 // A field of bytes.
@@ -54,6 +61,13 @@ pub fn bytes_at<const N: usize>(s: &[u8], at: usize) -> [u8; N]
     let mut field = [0; N];
     field.copy_from_slice(&s[at..at + N]);
     field
+}
+
+// The bytes of a field, zero where it is absent.
+pub fn present<const N: usize>(field: Option<[u8; N]>) -> [u8; N]
+    ensures { result ≡ present N field.entry }
+{
+    field.unwrap_or([0; N])
 }
 
 // Writes some bytes through the part of the output that starts at their offset.
@@ -69,8 +83,5 @@ pub fn put_field<const N: usize>(out: &mut [u8], at: usize, field: Option<[u8; N
     requires { at + N ≤ length out.old }
     ensures { (out.new ≡ over out.old at N (present N field.entry)) × (length (present N field.entry) ≡ N) }
 {
-    match field {
-        Some(bytes) => put_bytes(out, at, &bytes),
-        None => put_bytes(out, at, &[0; N]),
-    }
+    put_bytes(out, at, &present(field));
 }

@@ -91,10 +91,13 @@ place_in_within cper [] i row = tt
 place_in_within cper (k ∷ ks) i zero = i.0.body
 place_in_within cper (k ∷ ks) i (suc row) = place_in_within cper ks i.1 row
 
+place_in_lem : (cper : List ℕ) (i n row : ℕ) → PlaceWithin cper (place_in (kept_from cper i n) row)
+place_in_lem cper i n row = place_in_within cper (kept_from cper i n) (kept_from_within cper i n) row
+
 pub place_within : (cper : List ℕ) (row : ℕ) → PlaceWithin cper (place_of cper row)
-unfolding place_of
+unfolding place_of kept_of
 place_within cper row = by (check_of cper)
   where
     by : (check : Result (Unit {0}) Refusal) → PlaceWithin cper (after check Err (place_in (kept_of cper) row))
-    by (Ok _) = place_in_within cper (kept_of cper) (kept_within cper) row
+    by (Ok _) = place_in_lem cper 0 (count_of cper) row
     by (Err _) = tt

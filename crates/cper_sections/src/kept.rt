@@ -5,7 +5,7 @@ ghost use Rattle.cper_header.specs.Record.{header_size};
 ghost use Rattle.cper_descr.specs.Descriptor.{descriptor_size};
 ghost use Rattle.cper_sections.specs.declared.kept.Section.{Section};
 ghost use Rattle.cper_sections.specs.Sections.{descriptor_at, told, keeps, kept_of};
-ghost use Rattle.cper_sections.specs.Steps.{AllWithin, kept_in, NextKept};
+ghost use Rattle.cper_sections.specs.Steps.{AllWithin, kept_in, NextIndex, NextKept};
 
 use le::LittleEndian;
 use std::marker::Model;
@@ -55,9 +55,9 @@ fn is_kept(cper: &[u8], index: usize) -> bool
 }
 
 // The index of the first kept section from an index on, below a count, if there is one.
-fn next_kept(cper: &[u8], from: usize, count: usize) -> Option<usize>
+fn next_index(cper: &[u8], from: usize, count: usize) -> Option<usize>
     requires { count < 65536 }
-    ensures { NextKept cper.now from count result }
+    ensures { NextIndex cper.now from count result }
 {
     for index in from..count {
         if is_kept(cper, index) {
@@ -65,6 +65,15 @@ fn next_kept(cper: &[u8], from: usize, count: usize) -> Option<usize>
         }
     }
     None
+}
+
+// The first kept section from an index on, below a count, if there is one.
+pub fn next_kept(cper: &[u8], from: usize, count: usize) -> Option<Section>
+    requires { count < 65536 }
+    ensures { NextKept cper.now from count result }
+{
+    let index = next_index(cper, from, count)?;
+    Some(section_told(cper, index))
 }
 
 // The kept sections of a CPER that are still to come, in the order of their descriptors.
@@ -107,7 +116,7 @@ impl<'a> Iterator for Kept<'a> {
     ghost remaining = { item_count (λ s. s) };
 
     fn next(&mut self) -> Option<Section> {
-        let index = next_kept(self.cper, self.next, self.count)?;
+        let index = next_index(self.cper, self.next, self.count)?;
         self.next = index + 1;
         Some(section_told(self.cper, index))
     }
