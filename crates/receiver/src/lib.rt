@@ -15,7 +15,7 @@ pub mod piece;
 pub mod refusal;
 
 use answers::MOST_BYTES;
-use last::last;
+use last::last_with;
 use lookup::Lookup;
 use piece::{Moved, after_held, walk_on};
 use refusal::Refusal;
@@ -228,7 +228,7 @@ pub fn finish(
     if region_rows::room_of(spans) < LEAST_ROOM {
         return Err(Refusal::BadPiece);
     }
-    let listing = last(*state, seen, kept, spans);
+    let listing = last_with(*state, seen, kept, spans);
     state.shut();
     Ok(listing)
 }
