@@ -19,6 +19,7 @@ use Rattle.receiver.proofs.Moves.{held_length, held_head}
 
 pub record InRange (s : State) : Type 0 where
   pub used : s.stage ≡ in_use
+  pub marked : s.whole ≤ 1
   pub blocks : s.rule_blocks ≤ 8
   pub taken : s.taken ≤ 1048576
   pub offset : s.offset ≤ s.taken
@@ -33,6 +34,7 @@ in_range_lem s e =
     let used = both _ _ blocks.0 in
     record {
       used = eqb-true s.stage in_use used.0;
+      marked = leb-true s.whole 1 used.1;
       blocks = leb-true s.rule_blocks 8 blocks.1;
       taken = leb-true s.taken 1048576 taken.1;
       offset = leb-true s.offset s.taken offset.1;

@@ -15,7 +15,7 @@ use Rattle.header_judge.proofs.Heads.{head_record, declared_record, word_there, 
 use Rattle.region_rows.specs.Rows.{top, with_span}
 use Rattle.region_try.specs.Tries.{hit, span_of, try_of}
 use Rattle.region_try.specs.Whole.{keeps_whole}
-use Rattle.receiver.specs.Fronts.{head_in}
+use Rattle.receiver.specs.Fronts.{head_in, row_in}
 use Rattle.receiver.specs.Steps.{bytes_in, put_of}
 use Rattle.receiver.specs.declared.front.Front.{Front}
 use Rattle.receiver.specs.declared.piece.Moved.{Moved}
@@ -65,15 +65,22 @@ module _ (f : Front) (left : ℕ) where
           fits = rw (are ∙ found.bytes) found.fits;
         }
 
-    -- its row is written, by the numbers that are read
-    pub put_in : (m : Moved) (t : List ℕ) (box : Bool) (size : ℕ) → f.size ≡ Ok size → box ≡ is_box f.word f.flags
-        → ◌≡◌ {A = List ℕ × Moved}
-        (with_span t m.rows (span_of 0 top m.offset left summary), record { rows = m.rows + 1; offset = m.offset + declared; whole = m.whole && not (box && ltb declared size) })
-        (put_of (try_of 0 top m.offset left (head_in f)) m t)
-    unfolding put_of try_of
-    put_in m t box size found b =
+    -- whether its row leaves the listing whole, by the numbers that are read
+    pub keeps_in : (offset : ℕ) (box : Bool) (size : ℕ) → f.size ≡ Ok size → box ≡ is_box f.word f.flags
+        → not (box && ltb declared size) ≡ keeps_whole (hit (row_in f offset left))
+    keeps_in offset box size found b =
         let all = record_in in
         let fits : summary.declared ≤ left = rw (← all.declares) all.fits in
-        let nonzero = ne_eqb summary.declared 0 (λ e. let declares = all.declares in omega arith) in
         let is = (size_found f.bytes.now f.word f.flags (sym f.sized ∙ found)).is in
-        rw (all.is, b, is, all.declares, nonzero, keeps_whole_lem m.offset left summary fits)
+        rw (b, is, all.declares) (keeps_whole_lem offset left summary fits)
+
+    -- and the walk past it
+    pub put_in : (m : Moved) (t : List ℕ)
+        → ◌≡◌ {A = List ℕ × Moved}
+        (with_span t m.rows (row_in f m.offset left), record { rows = m.rows + 1; offset = m.offset + declared; whole = m.whole && keeps_whole (hit (row_in f m.offset left)) })
+        (put_of (try_of 0 top m.offset left (head_in f)) m t)
+    unfolding put_of try_of
+    put_in m t =
+        let all = record_in in
+        let nonzero = ne_eqb summary.declared 0 (λ e. let declares = all.declares in omega arith) in
+        rw (all.is, all.declares, nonzero)

@@ -18,9 +18,10 @@ pub struct Front<'a> {
 
 impl<'a> Front<'a> {
     ghost use Rattle.std.specs.Prelude.{◌+◌, ◌*◌, ◌≤◌, ◌<◌, ◌^◌, length};
-    ghost use Rattle.region_rows.specs.Rows.{width, top};
-    ghost use Rattle.region_try.specs.Tries.{try_of};
-    ghost use Rattle.receiver.specs.Fronts.{head_in};
+    ghost use Rattle.region_rows.specs.Rows.{width, top, with_span};
+    ghost use Rattle.region_try.specs.Tries.{hit, try_of};
+    ghost use Rattle.region_try.specs.Whole.{keeps_whole};
+    ghost use Rattle.receiver.specs.Fronts.{head_in, row_in};
     ghost use Rattle.receiver.specs.Steps.{bytes_in, put_of};
 
     // The bytes of its record, of which `left` have come: 0 where it declares none, or more.
@@ -35,18 +36,36 @@ impl<'a> Front<'a> {
         declared
     }
 
-    // Writes the row of its record, which is all in, and walks past it. A Box does not leave the listing whole whose header exceeds it.
-    pub fn put(self, declared: usize, left: usize, moved: &mut Moved, spans: &mut [u32])
+    // Writes the row of its record, which is all in. Whether that leaves the listing whole: a Box does not whose header exceeds it.
+    pub fn put_record(
+        self,
+        declared: usize,
+        offset: usize,
+        left: usize,
+        rows: u32,
+        spans: &mut [u32],
+    ) -> bool
         requires all_in { (0 < declared) × (declared ≡ bytes_in left (head_in self)) × (declared ≤ 524280) }
-        requires room { (moved.old.offset + left < 2 ^ 32) × (moved.old.rows + 1 < 2 ^ 32) × ((moved.old.rows + 1) * width ≤ length spans.old) }
-        ensures { (spans.new, moved.new) ≡ put_of (try_of 0 top moved.old.offset left (head_in self.entry)) moved.old spans.old }
+        requires room { (offset < 2 ^ 32) × ((rows + 1) * width ≤ length spans.old) }
+        ensures spans_after { spans.new ≡ with_span spans.old rows (row_in self.entry offset left) }
+        ensures value { result ≡ keeps_whole (hit (row_in self.entry offset left)) }
     {
         let size = self.size.unwrap();
         let summary = header_judge::summary_of(self.bytes, self.word, self.flags, declared, size);
-        let span = region_try::span_of(0, TOP, moved.offset, left, summary);
-        region_rows::put(spans, moved.rows as usize, span);
+        let span = region_try::span_of(0, TOP, offset, left, summary);
+        region_rows::put(spans, rows as usize, span);
+        !(header_judge::is_box(self.word, self.flags) & (declared < size))
+    }
+
+    // Writes that row where a walk stands, and walks past the record.
+    pub fn put(self, declared: usize, left: usize, moved: &mut Moved, spans: &mut [u32])
+        requires all_in { (0 < declared) × (declared ≡ bytes_in left (head_in self)) × (declared ≤ 524280) }
+        requires room { (moved.old.offset < 2 ^ 32) × (moved.old.rows + 1 < 2 ^ 32) × ((moved.old.rows + 1) * width ≤ length spans.old) }
+        ensures { (spans.new, moved.new) ≡ put_of (try_of 0 top moved.old.offset left (head_in self.entry)) moved.old spans.old }
+    {
+        let keeps = self.put_record(declared, moved.offset, left, moved.rows, spans);
         moved.rows += 1;
         moved.offset += declared;
-        moved.whole &= !(header_judge::is_box(self.word, self.flags) & (declared < size));
+        moved.whole &= keeps;
     }
 }

@@ -5,7 +5,7 @@ ghost use Rattle.region_rows.specs.Rows.{width, top};
 ghost use Rattle.region_try.specs.Tries.{try_of};
 ghost use Rattle.region_try.specs.Whole.{clean_stop};
 ghost use Rattle.receiver.specs.Lookups.{rules_of};
-ghost use Rattle.receiver.specs.Calls.{waiting_of, usable};
+ghost use Rattle.receiver.specs.Calls.{rules_at, waiting_of, usable};
 ghost use Rattle.receiver.specs.Steps.{bytes_in, listing_at, end_at, last_of};
 
 use crate::lookup::Lookup;
@@ -17,6 +17,7 @@ use region::{Answer, Listing};
 use region_rows::TOP;
 use region_try::Cut;
 use region_try::stop::{Stop, clean_stop, stop_at};
+use rules::columns::NUMBERS;
 
 // The listing of a walk that is not cut off: its rows are those that this call writes, the answer goes by all of them.
 fn listing_at(
@@ -77,8 +78,8 @@ fn at_head(head: Result<Summary, NoRecord>, held: usize, from: Moved, spans: &mu
     }
 }
 
-// The listing at the end of the bytes, of which the first are kept.
-pub fn last(state: State, lookup: Lookup, kept: &[u8], spans: &mut [u32]) -> Listing
+// The listing at the end of the bytes, of which the first are kept. The lookup may know their word already.
+pub fn last_with(state: State, lookup: Lookup, kept: &[u8], spans: &mut [u32]) -> Listing
     requires { (usable state lookup.rules.now kept.now ≡ true) × (lookup.blocks ≡ state.rule_blocks) × (length kept.now ≡ 536) × (6000 ≤ length spans.old) }
     ensures { (spans.new, result) ≡ last_of (rules_of lookup.entry) (waiting_of state kept.now) spans.old }
 {
@@ -95,4 +96,13 @@ pub fn last(state: State, lookup: Lookup, kept: &[u8], spans: &mut [u32]) -> Lis
     let word = word_of(front);
     let head = header_judge::judge_with(front, word, lookup.flags_of(word));
     at_head(head, held, from, spans)
+}
+
+// The same, where no word was looked up.
+pub fn last(state: State, rules: &[u32; NUMBERS], kept: &[u8], spans: &mut [u32]) -> Listing
+    requires { (usable state rules.now kept.now ≡ true) × (length kept.now ≡ 536) × (6000 ≤ length spans.old) }
+    ensures { (spans.new, result) ≡ last_of (rules_at state rules.now) (waiting_of state kept.now) spans.old }
+{
+    let lookup = Lookup::new(rules, state.rule_blocks as usize);
+    last_with(state, lookup, kept, spans)
 }

@@ -2,6 +2,7 @@
 #![tactic(auto)]
 
 ghost use Rattle.std.specs.Prelude.{◌≡◌, true, ◌≤◌, eqb, length, take, is_some, IfSome};
+ghost use Rattle.header_judge.specs.Version.{word_of};
 ghost use Rattle.header_judge.specs.Head.{head_of};
 ghost use Rattle.receiver.specs.Lookups.{rules_of, SameRules};
 ghost use Rattle.receiver.specs.Steps.{bytes_in, taken_of};
@@ -15,7 +16,7 @@ pub mod piece;
 pub mod refusal;
 
 use answers::MOST_BYTES;
-use last::last;
+use last::last_with;
 use lookup::Lookup;
 use piece::{Moved, after_held, walk_on};
 use refusal::Refusal;
@@ -153,7 +154,7 @@ impl State {
 fn see_kept<'a>(held: usize, mut lookup: Lookup<'a>, kept: &[u8]) -> Option<Lookup<'a>>
     requires { length kept.now ≡ 536 }
     ensures waits { is_some result ≡ eqb (bytes_in held (head_of (rules_of lookup.entry) (take held kept.now))) 0 }
-    ensures lookup { IfSome result (λ l. SameRules l lookup.entry) }
+    ensures lookup { IfSome result (λ l. SameRules l lookup.entry × (l.word ≡ word_of (take held kept.now))) }
 {
     let front = lookup.read(&kept[..held.min(KEPT)]);
     if front.bytes_in(held) == 0 {
@@ -228,7 +229,7 @@ pub fn finish(
     if region_rows::room_of(spans) < LEAST_ROOM {
         return Err(Refusal::BadPiece);
     }
-    let listing = last(*state, seen, kept, spans);
+    let listing = last_with(*state, seen, kept, spans);
     state.shut();
     Ok(listing)
 }

@@ -20,6 +20,7 @@ pub struct Lookup<'a> {
 
 impl<'a> Lookup<'a> {
     ghost use Rattle.std.specs.Prelude.{◌≡◌};
+    ghost use Rattle.header_judge.specs.Version.{word_of};
     ghost use Rattle.header_judge.specs.Head.{head_of};
     ghost use Rattle.receiver.specs.Fronts.{head_in};
     ghost use Rattle.receiver.specs.Lookups.{rules_of, SameRules};
@@ -54,7 +55,7 @@ impl<'a> Lookup<'a> {
     // Reads the header that some bytes start with.
     #[tactic(auto, using(header_judge::proofs::Heads::head_known))]
     pub fn read<'b>(&mut self, bytes: &'b [u8]) -> Front<'b>
-        ensures { (head_in result ≡ head_of (rules_of self.old) bytes.now) × SameRules self.new self.old }
+        ensures { (head_in result ≡ head_of (rules_of self.old) bytes.now) × SameRules self.new self.old × (self.new.word ≡ word_of bytes.now) }
     {
         let word = word_of(bytes);
         let flags = self.flags_of(word);

@@ -26,7 +26,7 @@ returns-then-room_of-lt-LEAST_ROOM c =
 pub returns : goal.returns
 returns c =
     let a = c.args in
-    let ending = c.last-listing in
+    let ending = c.last_with-listing in
     let good : usable a.state.now a.rules.now a.kept.now ≡ true = search rules in
     let rules_are : c.in_ok-seen.seen.rules.now ≡ a.rules.now = search rules in
     let blocks_are : c.in_ok-seen.seen.blocks ≡ a.state.now.rule_blocks = search rules in
