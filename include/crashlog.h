@@ -31,8 +31,7 @@
  *   crashlog_receiver_feed, which shuts the receiver. Otherwise only the rows, bytes or header told, and the receiver, have
  *   changed besides it; what lies past them in the buffer is as it was.
  *
- * The archive needs two symbols from outside: memcpy and memset. A freestanding program supplies its own. Its linker script
- * must place the section .data.rel.ro: the table of names lies there, which holds pointers.
+ * The archive needs two symbols from outside: memcpy and memset. A freestanding program supplies its own.
  *
  * A worked call
  *

@@ -1,5 +1,5 @@
 -- The record types and their names (`record_type_as_str`, and UNKNOWN for every other number).
-use Rattle.std.specs.Prelude.{ℕ, cond, List, [], ◌∷◌, ◌++◌, eqb, leb, length, get_or, drop}
+use Rattle.std.specs.Prelude.{ℕ, ◌-◌, cond, List, [], ◌∷◌, ◌++◌, eqb, leb, length, get_or, drop, replicate}
 use Rattle.names.specs.Ascii.{ascii}
 
 -- record types, each with its name
@@ -43,6 +43,10 @@ lookup t ((code, name) ∷ rest) = cond (eqb t code) name (lookup t rest)
 -- the name of a record type
 unfoldable pub text_of : ℕ → List ℕ
 text_of t = lookup t named
+
+-- a name with zeros after it up to 16 bytes
+unfoldable pub padded : List ℕ → List ℕ
+padded name = name ++ replicate (16 - length name) 0
 
 -- a name at the start of the output, where it fits, and its length
 unfoldable pub name_out : List ℕ → List ℕ → List ℕ × ℕ

@@ -13,7 +13,7 @@ pub fn name_of(record_type: u32) -> &'static str
     table::entries()
         .iter()
         .find(|(code, _)| record_type == *code)
-        .map_or("UNKNOWN", |(_, name)| name)
+        .map_or("UNKNOWN", |(_, name)| table::text(name))
 }
 
 // The length of a record type's name, which is written to the start of the output where it fits.

@@ -54,7 +54,8 @@ pub fn nth_or_zero<T: Element + Default>(bytes: &[u8], i: usize) -> T {
 
 // A count, cut to a buffer's length.
 pub fn within<T>(count: usize, buffer: &[T]) -> usize
-    ensures { result ≤ length buffer.now }
+    ensures at_most { result ≤ count }
+    ensures inside { result ≤ length buffer.now }
 {
     count.min(buffer.len())
 }
@@ -69,7 +70,9 @@ pub fn left<T: Element>(buffer: &[T], wanted: &[u8]) -> bool {
 }
 
 // Some of the bytes, cut where they end.
-pub fn part(bytes: &[u8], from: usize, len: usize) -> &[u8] {
+pub fn part(bytes: &[u8], from: usize, len: usize) -> &[u8]
+    ensures { length result.now ≤ len }
+{
     let start = within(from, bytes);
     let rest = &bytes[start..];
     let end = within(len, rest);

@@ -8,10 +8,15 @@ pub const BYTES: usize = 564;
 
 const FIXED_BYTES: usize = 56;
 
-// The header that lies in some bytes; what is past their end is 0.
+fn long(low: u32, high: u32) -> u64 {
+    u64::from(low) + u64::from(high) * 4294967296
+}
+
+// The header that lies in some bytes; a word that is past their end, whole or in part, is 0.
 pub fn header_in(bytes: &[u8]) -> CHeader {
+    let bytes = &bytes[..bytes.len() / 4 * 4];
     CHeader {
-        timestamp: nth_or_zero(bytes, 0),
+        timestamp: long(nth_or_zero(bytes, 0), nth_or_zero(bytes, 1)),
         revision: nth_or_zero(bytes, 2),
         product_id: nth_or_zero(bytes, 3),
         agent_version: nth_or_zero(bytes, 4),

@@ -147,7 +147,9 @@ fn report(rt: &impl Print, name: &str, count: Count) -> io::Result<()> {
     Ok(())
 }
 
-// Runs the cases of a file, which have so many bytes of identifier, and prints how it went.
+// Runs the cases of a file, which have so many bytes of identifier, and prints how it went. A case has over a mebibyte of stack;
+// opened into `main`, it would keep that under the cases of every other file.
+#[inline(never)]
 fn replay<F: Fn(&Case) -> bool>(
     rt: &(impl Files + Print),
     name: &str,
