@@ -1,5 +1,5 @@
-// The receiver of a region that comes in pieces, for C: each function works on the struct behind C's pointer, whose rules and kept bytes stay
-// where they lie, and gives a refusal as its number, with zeros beside it.
+// The receiver of a region that comes in pieces, for C: each function works on the struct behind C's pointer, and gives a refusal as its
+// number, with zeros beside it. `receiver` has the state by value; the rules and the kept bytes are lent to it where they lie.
 ghost use Rattle.std.specs.Prelude.{◌≡◌};
 ghost use Rattle.receiver.specs.Calls.{started_out, fed_out, finished_out};
 
@@ -27,13 +27,14 @@ pub fn crashlog_receiver_feed(
 ) -> u32
     ensures { (receiver.new, spans.new, rows.new, result) ≡ fed_out receiver.old piece.now spans.old }
 {
-    let fed = receiver::feed(
-        &mut receiver.state,
+    let (state, fed) = receiver::feed(
+        receiver.state,
         &receiver.rules,
         piece,
         &mut receiver.kept,
         spans,
     );
+    receiver.state = state;
     match fed {
         Ok(written) => {
             *rows = written;
@@ -54,8 +55,14 @@ pub fn crashlog_receiver_finish(
 ) -> u32
     ensures { (receiver.new, spans.new, told.new, result) ≡ finished_out receiver.old spans.old }
 {
-    let state = &mut receiver.state;
-    match receiver::finish(state, &receiver.rules, &receiver.kept, spans) {
+    let (state, finished) = receiver::finish(
+        receiver.state,
+        &receiver.rules,
+        &receiver.kept,
+        spans,
+    );
+    receiver.state = state;
+    match finished {
         Ok(listing) => {
             *told = region::listing_told(listing);
             u32::from(listing.answer)

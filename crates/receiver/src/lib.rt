@@ -1,4 +1,5 @@
-// The receiver of a region that comes in pieces: start, feed and finish. The state, the rules and the kept bytes are lent where they lie.
+// The receiver of a region that comes in pieces: start, feed and finish. The state goes by value, the rules and the kept bytes are lent where
+// they lie, so that a piece and the end cost no copy of them.
 #![tactic(auto)]
 
 ghost use Rattle.std.specs.Prelude.{◌≡◌, true, ◌≤◌, eqb, length, take, is_some, IfSome};
@@ -142,10 +143,13 @@ impl State {
     }
 
     // No call goes on from it.
-    fn shut(&mut self)
-        ensures { self.new ≡ shut_down self.old }
+    fn shut(self) -> State
+        ensures { result ≡ shut_down self }
     {
-        self.stage = SHUT;
+        State {
+            stage: SHUT,
+            ..self
+        }
     }
 }
 
@@ -186,50 +190,55 @@ pub fn start(rules: &[u32]) -> Result<Receiver, Refusal>
     })
 }
 
-// Takes a piece: the rows that are all in with it go to the table's start. How many they are.
+// Takes a piece: the rows that are all in with it go to the table's start. The state after it, and how many rows they are.
 pub fn feed(
-    state: &mut State,
+    state: State,
     rules: &[u32; NUMBERS],
     piece: &[u8],
     kept: &mut [u8],
     spans: &mut [u32],
-) -> Result<u64, Refusal>
+) -> (State, Result<u64, Refusal>)
     requires { length kept.old ≡ 536 }
-    ensures { (kept.new, spans.new, state.new, result) ≡ feed_out state.old rules.now piece.now kept.old spans.old }
+    ensures { (kept.new, spans.new, result.0, result.1) ≡ feed_out state rules.now piece.now kept.old spans.old }
 {
-    let lookup = state.see(rules, kept).ok_or(Refusal::NotReceiving)?;
+    let Some(lookup) = state.see(rules, kept) else {
+        return (state, Err(Refusal::NotReceiving));
+    };
     if (MOST_PIECE < piece.len()) | (region_rows::room_of(spans) < LEAST_ROOM) {
-        return Err(Refusal::BadPiece);
+        return (state, Err(Refusal::BadPiece));
     }
     let taken = state.taken + (piece.len() as u64);
     if (MOST_BYTES as u64) < taken {
-        state.shut();
-        return Err(Refusal::TooLong);
+        return (state.shut(), Err(Refusal::TooLong));
     }
     let moved = state.take_piece(lookup, piece, kept, spans);
     let rows = moved.rows as u64;
-    state.taken = taken;
-    state.offset = moved.offset as u64;
-    state.rows += rows;
-    state.whole = u32::from(moved.whole);
-    Ok(rows)
+    let after = State {
+        taken,
+        offset: moved.offset as u64,
+        rows: state.rows + rows,
+        whole: u32::from(moved.whole),
+        ..state
+    };
+    (after, Ok(rows))
 }
 
-// The end of the bytes: a last short row, if a record lacks bytes, and what is told of the walk.
+// The end of the bytes: a last short row, if a record lacks bytes. The state after it, and what is told of the walk.
 pub fn finish(
-    state: &mut State,
+    state: State,
     rules: &[u32; NUMBERS],
     kept: &[u8],
     spans: &mut [u32],
-) -> Result<Listing, Refusal>
+) -> (State, Result<Listing, Refusal>)
     requires { length kept.now ≡ 536 }
-    ensures { (spans.new, state.new, result) ≡ finish_out state.old rules.now kept.now spans.old }
+    ensures { (spans.new, result.0, result.1) ≡ finish_out state rules.now kept.now spans.old }
 {
-    let seen = state.see(rules, kept).ok_or(Refusal::NotReceiving)?;
+    let Some(seen) = state.see(rules, kept) else {
+        return (state, Err(Refusal::NotReceiving));
+    };
     if region_rows::room_of(spans) < LEAST_ROOM {
-        return Err(Refusal::BadPiece);
+        return (state, Err(Refusal::BadPiece));
     }
-    let listing = last_with(*state, seen, kept, spans);
-    state.shut();
-    Ok(listing)
+    let listing = last_with(state, seen, kept, spans);
+    (state.shut(), Ok(listing))
 }
