@@ -104,14 +104,15 @@ pub fn list_cper(
     if MOST_BYTES < cper.len() {
         return region::refused(Answer::TooLong);
     }
-    let columns = Columns::of(rules);
-    let Some(table) = &columns else {
+    if !rules::valid(rules) {
         return region::refused(Answer::BadRules);
-    };
+    }
     if !cper_header::is_cper(cper) {
         return region::refused(Answer::NotCper);
     }
-    let bounds = Bounds::new(table, limit, spans);
+    let mut columns = Columns::none();
+    columns.fill(rules);
+    let bounds = Bounds::new(&columns, limit, spans);
     let end = walk_sections(cper, record_id, &bounds, spans);
     region::listing_at(Walked::untold(end))
 }

@@ -138,10 +138,11 @@ pub fn list(region: &[u8], rules: &[u32], limit: u64, spans: &mut [u32]) -> List
     if MOST_BYTES < region.len() {
         return refused(Answer::TooLong);
     }
-    let columns = Columns::of(rules);
-    let Some(table) = &columns else {
+    if !rules::valid(rules) {
         return refused(Answer::BadRules);
-    };
-    let bounds = Bounds::new(table, limit, spans);
+    }
+    let mut columns = Columns::none();
+    columns.fill(rules);
+    let bounds = Bounds::new(&columns, limit, spans);
     listing_at(region_walk::region_walk(region, &bounds, 0, DEEPEST, 0, true, TOP, 0, spans))
 }

@@ -1,2 +1,3 @@
 pub mod Ends
 pub mod Turn
+pub mod Start

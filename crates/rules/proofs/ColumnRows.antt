@@ -49,7 +49,7 @@ small_valid t n h = rw (length_from t 0 n, eq-eqb (n * 3 % 3) 0 (omega arith), l
 -- ---- rows without flags
 
 -- columns of zeros have none
-zero_at : (n i : ℕ) → ◌≡◌ {A = ℕ} (get_or (replicate n 0) i 0) 0
+pub zero_at : (n i : ℕ) → ◌≡◌ {A = ℕ} (get_or (replicate n 0) i 0) 0
 zero_at zero i = refl
 zero_at (suc n) zero = refl
 zero_at (suc n) (suc i) = zero_at n i
@@ -90,7 +90,7 @@ module _ (t : List ℕ) (rows end : ℕ) (h : rows ≤ end) (blank : Blank t row
 
 -- ---- a row that is stored
 
-from_none : (t : List ℕ) (at : ℕ) → rules_from t at 0 ≡ []
+pub from_none : (t : List ℕ) (at : ℕ) → rules_from t at 0 ≡ []
 unfolding rules_from
 from_none t at = refl
 

@@ -1,5 +1,5 @@
 // A rule table laid out by columns (all masks, then all wanted numbers, then all flags), so that a look at several of its rows is one step.
-ghost use Rattle.std.specs.Prelude.{◌≡◌, ◌*◌, ◌%◌, ◌≤◌, length, cond};
+ghost use Rattle.std.specs.Prelude.{◌≡◌, ◌*◌, ◌%◌, ◌≤◌, [], length, replicate, true, cond};
 ghost use Rattle.rules.specs.Rules.{flags_of, valid_of};
 ghost use Rattle.rules.specs.Columns.{columns_of, blocks_of, rules_in, Blank};
 
@@ -49,7 +49,31 @@ impl Columns {
         if !crate::valid(rules) {
             return None;
         }
-        Some(Columns::new(columns_of(rules), rules.len() / NUMBERS_IN_RULE))
+        let mut columns = Columns::none();
+        columns.fill(rules);
+        Some(columns)
+    }
+
+    // Those of an empty table.
+    #[inline(always)]
+    pub fn none() -> Columns
+        ensures { result ≡ [] }
+    {
+        Columns {
+            numbers: [0; NUMBERS],
+            rows: 0,
+        }
+    }
+
+    // Becomes those of a valid table. They are filled in place, since columns that are moved are copied.
+    #[inline(always)]
+    pub fn fill(&mut self, rules: &[u32])
+        requires { valid_of rules.now ≡ true }
+        ensures { self.new ≡ rules.now }
+    {
+        self.numbers = [0; NUMBERS];
+        lay(&mut self.numbers, rules);
+        self.rows = rules.len() / NUMBERS_IN_RULE;
     }
 
     // The flags of a version word.
@@ -66,13 +90,22 @@ pub fn columns_of(rules: &[u32]) -> [u32; NUMBERS]
     ensures { result ≡ columns_of rules.now }
 {
     let mut columns = [0u32; NUMBERS];
+    lay(&mut columns, rules);
+    columns
+}
+
+// Lays a table out by columns that are still blank.
+fn lay(columns: &mut [u32; NUMBERS], rules: &[u32])
+    requires blank { columns.old ≡ replicate 192 0 }
+    requires rows { (length rules.now % 3 ≡ 0) × (length rules.now ≤ 192) }
+    ensures { columns.new ≡ columns_of rules.now }
+{
     for row in 0..rules.len() / NUMBERS_IN_RULE {
         let at = row * NUMBERS_IN_RULE;
         columns[row] = rules[at];
         columns[row + COLUMN] = rules[at + 1];
         columns[row + 2 * COLUMN] = rules[at + 2];
     }
-    columns
 }
 
 // The flags of a version word under the first rows. The rows past them, up to the end of a block, add none.

@@ -6,15 +6,15 @@ ghost use Rattle.std.specs.Prelude.{◌≡◌, ◌<◌};
 ghost use Rattle.sieve.specs.Sieve.{shared_mask, slot_of, slots_of, is_free, Sifts};
 
 // Numbers under the mask are spread over so many slots, by the highest bits of a product with 2^32 over the golden ratio.
-const SLOTS: usize = 64;
+pub const SLOTS: usize = 64;
 
 const SPREAD: u64 = 2654435769;
 
-// The bits that all rows of a table look at, and which slots are free.
+// A mask, and which slots are free under it. That of a table has the bits that all its rows look at.
 #[derive(Drop)]
 pub struct Sieve {
-    mask: u32,
-    slots: [bool; SLOTS],
+    pub mask: u32,
+    pub slots: [bool; SLOTS],
 }
 
 impl Sieve {
@@ -22,17 +22,14 @@ impl Sieve {
     pub fn of(rules: &[u32]) -> Sieve
         ensures { Sifts rules.now result }
     {
-        let mut sieve = Sieve {
-            mask: shared_mask(rules),
-            slots: [true; SLOTS],
-        };
-        for [_, wanted, _] in rules::rows_of(rules) {
-            sieve.slots[slot_of(*wanted, sieve.mask)] = false;
+        let mask = shared_mask(rules);
+        Sieve {
+            mask,
+            slots: slots_of(rules, mask),
         }
-        sieve
     }
 
-    // Whether a word's slot is free. Then no row applies to it.
+    // Whether a word's slot is free. In the sieve of a table no row applies to it then.
     pub fn is_free(&self, word: u32) -> bool
         ensures { result ≡ is_free self.now word }
     {
@@ -55,4 +52,15 @@ fn slot_of(number: u32, mask: u32) -> usize
 {
     let shared = (number & mask) as u64;
     (shared * SPREAD / 67108864 % 64) as usize
+}
+
+// Which slots are free under a mask: those that no row's wanted number has.
+pub fn slots_of(rules: &[u32], mask: u32) -> [bool; SLOTS]
+    ensures { result ≡ slots_of mask rules.now }
+{
+    let mut slots = [true; SLOTS];
+    for [_, wanted, _] in rules::rows_of(rules) {
+        slots[slot_of(*wanted, mask)] = false;
+    }
+    slots
 }

@@ -1,4 +1,4 @@
--- `columns_of` gives the table's columns.
+-- `lay` lays a table out by columns.
 -- The loop's invariant: the columns so far, with the rows still to come, are the table's. Assumes nothing.
 use mathlib.Core.Path.{◌≡◌, sym, ◌∙◌}
 use Prim.Native.Nat.{◌+◌, ◌*◌}
@@ -6,7 +6,7 @@ use native.Mathlib.Omega.{arith}
 use lib.ListN.{length-set}
 use Rattle.rules.proofs.Rows.{rows_end, rows_step}
 use Rattle.rules.proofs.ColumnRows.{rows_written, row_written}
-use Rattle.rules.proofs.columns.columns_of.Goals as goal
+use Rattle.rules.proofs.columns.lay.Goals as goal
 
 pub loop-row-preserved : goal.loop-row-preserved
 loop-row-preserved c =
