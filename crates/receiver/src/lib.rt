@@ -142,7 +142,7 @@ impl State {
         moved
     }
 
-    // No call goes on from it.
+    // The same, but that no call goes on from it.
     fn shut(self) -> State
         ensures { result ≡ shut_down self }
     {
