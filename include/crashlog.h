@@ -282,8 +282,8 @@ uint32_t crashlog_list(const uint8_t *region, uint64_t region_len, const uint32_
                        uint32_t *spans, uint64_t spans_len, crashlog_listing *told);
 
 /*
- * Lists as crashlog_list does, for a caller with little stack: 392 bytes on x86-64, as bench/stack measures it, which
- * fails at 600; crashlog_list takes 2,744. It calls itself nowhere, and keeps its place in a fixed record of five levels.
+ * Lists as crashlog_list does, for a caller with little stack: 385 bytes on x86-64, as bench/stack measures it, which
+ * fails at 600; crashlog_list takes 1,976. It calls itself nowhere, and keeps its place in a fixed record of five levels.
  *
  * Answer, *told and the table are those of crashlog_list on every input, with every rule table, limit and room.
  */
