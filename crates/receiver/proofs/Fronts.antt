@@ -74,13 +74,20 @@ module _ (f : Front) (left : ℕ) where
         let is = (size_found f.bytes.now f.word f.flags (sym f.sized ∙ found)).is in
         rw (b, is, all.declares) (keeps_whole_lem offset left summary fits)
 
-    -- and the walk past it
-    pub put_in : (m : Moved) (t : List ℕ)
+    -- its row is written, and the walk goes past it
+    pub moved_in : (m : Moved) (t : List ℕ)
         → ◌≡◌ {A = List ℕ × Moved}
         (with_span t m.rows (row_in f m.offset left), record { rows = m.rows + 1; offset = m.offset + declared; whole = m.whole && keeps_whole (hit (row_in f m.offset left)) })
         (put_of (try_of 0 top m.offset left (head_in f)) m t)
     unfolding put_of try_of
-    put_in m t =
+    moved_in m t =
         let all = record_in in
         let nonzero = ne_eqb summary.declared 0 (λ e. let declares = all.declares in omega arith) in
         rw (all.is, all.declares, nonzero)
+
+    -- the same, by the numbers that are read
+    pub put_in : (m : Moved) (t : List ℕ) (box : Bool) (size : ℕ) → f.size ≡ Ok size → box ≡ is_box f.word f.flags
+        → ◌≡◌ {A = List ℕ × Moved}
+        (with_span t m.rows (span_of 0 top m.offset left summary), record { rows = m.rows + 1; offset = m.offset + declared; whole = m.whole && not (box && ltb declared size) })
+        (put_of (try_of 0 top m.offset left (head_in f)) m t)
+    put_in m t box size found b = rw (keeps_in m.offset box size found b) (moved_in m t)
